@@ -1,0 +1,45 @@
+-- The switch's election: its master, the id that is told, and the telling.
+use mathlib.Core.Bool.{Bool, true, false, not, cond, _&&_, _||_}
+use mathlib.Core.List.{List, [], _∷_}
+use Prim.Native.Nat.{ℕ, suc, _+_, _-_, max}
+use lib.ListN.{set}
+use lib.Dec.{eqb}
+use Rattle.rules.specs.State.{Status, ok, alreadyExists, Response, update}
+use Rattle.rules.specs.Queues.{push, room, has, before}
+
+-- The largest id, 0 if there is none.
+unfoldable pub largest : List ℕ → ℕ
+largest [] = 0
+largest (x ∷ l) = max x (largest l)
+
+-- The switch's master: the node with the largest id above 0, or 0 for none.
+unfoldable pub masterOf : List ℕ → ℕ
+masterOf ids = cond (eqb (largest ids) 0) 0 (before (largest ids) ids + 1)
+
+-- Another node than n holds the id.
+unfoldable pub taken : ℕ → ℕ → List ℕ → Bool
+taken n id ids = has id (set ids (n - 1) 0)
+
+-- The status of an update response to node n, by the ids that are held.
+unfoldable pub statusFor : List ℕ → ℕ → Status
+statusFor ids n = cond (eqb (masterOf ids) n) ok alreadyExists
+
+-- What node n is told.
+unfoldable pub news : List ℕ → ℕ → Response
+news ids n = record { message = update; status = statusFor ids n; id = largest ids }
+
+-- Every open stream is told, the first of the columns being node n's.
+unfoldable pub tellFrom : ℕ → List ℕ → List Bool → List (List Response) → List (List Response)
+tellFrom n ids [] qs = qs
+tellFrom n ids (o ∷ os) [] = []
+tellFrom n ids (o ∷ os) (q ∷ qs) = cond o (push (news ids n) q) q ∷ tellFrom (suc n) ids os qs
+
+-- Every open stream is told.
+abbrev pub tellAll : List ℕ → List Bool → List (List Response) → List (List Response)
+tellAll ids opens responses = tellFrom 1 ids opens responses
+
+-- Every open stream has room to be told.
+unfoldable pub roomOpen : List Bool → List (List Response) → Bool
+roomOpen [] qs = true
+roomOpen (o ∷ os) [] = true
+roomOpen (o ∷ os) (q ∷ qs) = (not o || room q) && roomOpen os qs

@@ -1,0 +1,13 @@
+pub mod Limits
+pub mod Codes
+pub mod State
+pub mod Queues
+pub mod Ids
+pub mod Range
+pub mod Part
+pub mod Parts
+pub mod Election
+pub mod Rules
+pub mod Step
+pub mod Run
+pub mod Open

@@ -1,0 +1,28 @@
+-- The open streams as one word, and how many there are.
+use mathlib.Core.Bool.{Bool, true, false, cond}
+use mathlib.Core.List.{List, [], _∷_}
+use Prim.Native.Nat.{ℕ, _+_, _*_}
+use Rattle.rules.specs.Codes.{stepDone, outOfRange}
+use Rattle.rules.specs.State.{State}
+use Rattle.rules.specs.Range.{inRange}
+
+-- Bit n - 1 is set for an open stream of node n.
+unfoldable pub wordOf : List Bool → ℕ
+wordOf [] = 0
+wordOf (o ∷ os) = cond o 1 0 + 2 * wordOf os
+
+unfoldable pub countOf : List Bool → ℕ
+countOf [] = 0
+countOf (o ∷ os) = cond o 1 0 + countOf os
+
+pub record Report : Type 0 where
+  pub code : ℕ
+  pub word : ℕ
+  pub count : ℕ
+
+-- A state that is not in range has no report.
+unfoldable pub openReport : State → Report
+openReport s =
+    cond (inRange s)
+    (record { code = stepDone; word = wordOf (s .core .wire .opens); count = countOf (s .core .wire .opens) })
+    (record { code = outOfRange; word = 0; count = 0 })

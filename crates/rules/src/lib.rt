@@ -1,0 +1,1 @@
+// The rules of mastership arbitration. They are definitions alone: read specs/, from Limits to Step.
