@@ -1,1 +1,13 @@
 pub mod Computed
+pub mod InRange
+pub mod Tests
+pub mod RangeTest
+pub mod Lists
+pub mod Ids
+pub mod Decide
+pub mod KeepsService
+pub mod Wires
+pub mod KeepsNode
+pub mod KeepsTelling
+pub mod KeepsSwitch
+pub mod Keeps

@@ -1,0 +1,141 @@
+-- Handling a write, stopping and starting keep the switch in range; and so does a fresh wire. Assumes nothing.
+use mathlib.Core.Path.{_≡_, refl, sym, ap, _∙_}
+use mathlib.Core.Logic.{_≢_}
+use mathlib.Core.Bool.{Bool, true, false, not, cond, _&&_, _||_, true≢false}
+use mathlib.Core.List.{List, [], _∷_, map}
+use Prim.Native.Nat.{ℕ, zero, suc, _+_, _≤_, _<_}
+use native.Mathlib.Omega.{arith}
+use lib.ListN.{length, getD, replicate, length-replicate}
+use lib.Dec.{T, ltb}
+use Rattle.rules.specs.Limits.{topTerm, historyLength}
+use Rattle.rules.specs.State.{Request, Response, Message, write, Status, ok, permissionDenied, Write, Wire}
+use Rattle.rules.specs.Queues.{push, first, rest, empty, room}
+use Rattle.rules.specs.Parts.{Served, Serving}
+use Rattle.rules.specs.Rules.{isWrite, noRequest, accepts, writeAnswer, handleWriteRule, cleared}
+use Rattle.laws.specs.InRange.{All, DistinctIds, Within, QueueFits, RequestFits, ResponseFits, StreamFits, WriteFits, WireFits}
+use Rattle.laws.specs.Tests.{_&_, as-is, is-yes, is-lt}
+use Rattle.laws.specs.RangeTest.{no-stream}
+use Rattle.laws.specs.Lists.{queue-rest, queue-first, queue-push}
+use Rattle.laws.specs.Decide.{Passes}
+
+-- ---- 11 Handle write
+
+pub record ServingFits (count writes : ℕ) (isOpen : Bool) (x : Serving) : Type 0 where
+  pub opened : isOpen ≡ true
+  pub requests : QueueFits RequestFits (x .requests)
+  pub responses : QueueFits ResponseFits (x .responses)
+  pub last : x .last ≤ topTerm
+  pub size : writes + length (x .accepted) ≤ historyLength
+  pub accepted : All (WriteFits count) (x .accepted)
+
+module _ (count n : ℕ) (node : Within 1 count n) (v : Served) (requests : QueueFits RequestFits (v .requests)) (responses : QueueFits ResponseFits (v .responses))
+    (term : v .term ≤ topTerm) (last : v .last ≤ topTerm) (writes : v .writes ≤ historyLength) where
+  pub handle-write-fits : Passes (handleWriteRule n) v → ServingFits count (v .writes) (v .isOpen) (handleWriteRule n .effect v)
+  unfolding handleWriteRule
+  handle-write-fits p =
+      let a = (is-yes (v .running) & is-yes (v .isOpen) & as-is (not (empty (v .requests))) & as-is (isWrite (first noRequest (v .requests) .message))) .to (p .allowed) in
+      go (accepts n v) (a .0 .0 .1) (queue-first RequestFits noRequest (v .requests) (a .0 .1) requests) (p .history)
+    where
+      answered : (s : Status) → ResponseFits (writeAnswer s) → QueueFits ResponseFits (push (writeAnswer s) (v .responses))
+      answered s k = queue-push ResponseFits (writeAnswer s) (v .responses) k (p .queues) responses
+
+      go : (b : Bool) → v .isOpen ≡ true → RequestFits (first noRequest (v .requests)) → T (not b || ltb (v .writes) historyLength)
+          → ServingFits count (v .writes) (v .isOpen) (record {
+            requests = rest (v .requests);
+            responses = push (writeAnswer (cond b ok permissionDenied)) (v .responses);
+            last = cond b (v .term) (v .last);
+            accepted = cond b (record { node = n; term = first noRequest (v .requests) .term } ∷ []) [];
+          })
+      go true o k t = record {
+        opened = o;
+        requests = queue-rest RequestFits (v .requests) requests;
+        responses = answered ok refl;
+        last = term;
+        size = let below = is-lt (v .writes) historyLength .to t in omega arith;
+        accepted = (record { node = node; term = k .term }, tt);
+      }
+      go false o k t = record {
+        opened = o;
+        requests = queue-rest RequestFits (v .requests) requests;
+        responses = answered permissionDenied refl;
+        last = last;
+        size = omega arith;
+        accepted = tt;
+      }
+
+-- ---- 12 Shutdown, and the fresh wire: nothing on any stream
+
+abbrev pub noWire : ℕ → ℕ → Wire
+noWire count last = record {
+  opens = replicate count false;
+  sent = replicate count 0;
+  requests = replicate count [];
+  responses = replicate count [];
+  ids = replicate count 0;
+  terms = replicate count 0;
+  last = last;
+}
+
+pub all-replicate : {A : Type 0} (P : A → Type 0) (n : ℕ) (x : A) → P x → All P (replicate n x)
+all-replicate P zero x p = tt
+all-replicate P (suc n) x p = (p, all-replicate P n x p)
+
+pub no-wire-fits : (count : ℕ) (running : Bool) (last : ℕ) → last ≤ topTerm → WireFits count running (noWire count last)
+no-wire-fits count running last u = record {
+  opens-size = length-replicate count false;
+  sent-size = length-replicate count 0;
+  requests-size = length-replicate count [];
+  responses-size = length-replicate count [];
+  ids-size = length-replicate count 0;
+  terms-size = length-replicate count 0;
+  streams = λ i. rw (same count false i, same {A = ℕ} count 0 i, same {A = List Request} count [] i, same {A = List Response} count [] i) no-stream;
+  distinct = no-ids count;
+  stopped = λ e. all-replicate (λ o. o ≡ false) count false refl;
+  last = u;
+}
+  where
+    same : {A : Type 0} (n : ℕ) (x : A) (i : ℕ) → getD (replicate n x) i x ≡ x
+    same zero x i = refl
+    same (suc n) x zero = refl
+    same (suc n) x (suc i) = same n x i
+
+    no-ids : (n : ℕ) → DistinctIds (replicate n 0)
+    no-ids zero = tt
+    no-ids (suc n) = ((λ z. absurd (z refl)), no-ids n)
+
+pub cleared-fits : (count : ℕ) (running running′ : Bool) (w : Wire) → WireFits count running w → WireFits count running′ (cleared w)
+unfolding cleared
+cleared-fits count running running′ w h = rw (
+  same (w .opens) false,
+  same {B = ℕ} (w .sent) 0,
+  same {B = List Request} (w .requests) [],
+  same {B = List Response} (w .responses) [],
+  same {B = ℕ} (w .ids) 0,
+  same {B = ℕ} (w .terms) 0,
+  h .opens-size,
+  h .sent-size,
+  h .requests-size,
+  h .responses-size,
+  h .ids-size,
+  h .terms-size,
+) (no-wire-fits count running′ (w .last) (h .last))
+  where
+    same : {A B : Type 0} (l : List A) (x : B) → map (λ y. x) l ≡ replicate (length l) x
+    same [] x = refl
+    same (y ∷ l) x = ap (λ m. x ∷ m) (same l x)
+
+-- ---- 13 Startup
+
+pub started-fits : (count : ℕ) (running : Bool) (w : Wire) → WireFits count running w → WireFits count true w
+started-fits count running w h = record {
+  opens-size = h .opens-size;
+  sent-size = h .sent-size;
+  requests-size = h .requests-size;
+  responses-size = h .responses-size;
+  ids-size = h .ids-size;
+  terms-size = h .terms-size;
+  streams = h .streams;
+  distinct = h .distinct;
+  stopped = λ e. absurd (true≢false e);
+  last = h .last;
+}

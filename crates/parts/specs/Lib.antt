@@ -1,0 +1,4 @@
+pub mod Hold
+pub mod Queues
+pub mod Ordered
+pub mod Places

@@ -1,0 +1,5 @@
+pub mod Tests
+pub mod Columns
+pub mod Tables
+pub mod Padded
+pub mod Queue

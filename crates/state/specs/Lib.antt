@@ -1,0 +1,5 @@
+pub mod Hold
+pub mod Tidy
+pub mod Order
+pub mod Reads
+pub mod Stores

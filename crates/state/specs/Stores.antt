@@ -1,0 +1,48 @@
+-- What each class of steps writes, stored into the structs that it concerns.
+use mathlib.Core.Bool.{Bool, true}
+use mathlib.Core.List.{List, []}
+use Prim.Native.Nat.{ℕ}
+use Rattle.rules.specs.State as S
+use Rattle.rules.specs.Parts.{Inbox, Sent, Received, Telling, Serving, Power, tellPart}
+use Rattle.seqs.specs.Columns.{column}
+use Rattle.parts.specs.Hold.{packMastership, packEvents, packRequests, packResponses}
+use Rattle.state.specs.Hold.{eventsAt, learnedAt, saysAt, holdWire, packNodes, packStreams, packClaims}
+use Rattle.state.specs.declared.Node.{Node}
+use Rattle.state.specs.declared.Stream.{Stream}
+use Rattle.state.specs.declared.Claims.{Claims}
+use Rattle.state.specs.declared.Wire.{Wire}
+
+-- 1, 2: all event queues anew
+abbrev pub storeEvents : List (List S.Mastership) → ℕ → List Node → List Node
+storeEvents events count nodes = packNodes events (column learnedAt count nodes) (column saysAt count nodes)
+
+-- 3
+abbrev pub storeInbox : Inbox → Node → Node
+storeInbox w r = record { events = packEvents (w .events); learned = packMastership (w .learned); says = r .says }
+
+-- 4, 6
+abbrev pub storeSent : Sent → Stream → Stream
+storeSent w s = record { opened = s .opened; sent = record { 0 = w .sent }; requests = packRequests (w .requests); responses = s .responses }
+
+-- 5, 7
+abbrev pub storeSays : Received → Node → Node
+storeSays w r = record { events = r .events; learned = r .learned; says = w .says }
+
+abbrev pub storeReceived : Received → Stream → Stream
+storeReceived w s = record { opened = s .opened; sent = s .sent; requests = s .requests; responses = packResponses (w .responses) }
+
+-- 8
+abbrev pub storeOpen : Bool → Stream → Stream
+storeOpen w s = record { opened = w; sent = s .sent; requests = s .requests; responses = s .responses }
+
+-- the wire, whole
+abbrev pub packWire : S.Wire → Wire
+packWire w = record { streams = packStreams w; claims = packClaims w }
+
+-- 9, 10
+unfoldable pub storeTelling : ℕ → Telling → ℕ → List Stream → Claims → Wire
+storeTelling n w count streams claims = packWire (tellPart n .put w (record { running = true; history = []; wire = holdWire count streams claims }) .wire)
+
+-- 11
+abbrev pub storeServing : Serving → Stream → Stream
+storeServing w s = record { opened = s .opened; sent = s .sent; requests = packRequests (w .requests); responses = packResponses (w .responses) }

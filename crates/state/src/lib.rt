@@ -1,0 +1,61 @@
+// The state as the code holds it: rows in arrays of eight, of which the first `count` are in use.
+use parts::ElectionId;
+use parts::EventQueue;
+use parts::Mastership;
+use parts::RequestQueue;
+use parts::ResponseQueue;
+use parts::Term;
+
+// A controller node. `says` is the flag "device says master".
+pub struct Node {
+    pub events: EventQueue,
+    pub learned: Mastership,
+    pub says: bool,
+}
+
+// A stream between a node and the switch; `sent` is the term last sent on it.
+pub struct Stream {
+    pub opened: bool,
+    pub sent: Term,
+    pub requests: RequestQueue,
+    pub responses: ResponseQueue,
+}
+
+// What the switch holds: an election id and a term for each node, and the last accepted term.
+pub struct Claims {
+    pub ids: [ElectionId; 8],
+    pub terms: [Term; 8],
+    pub last: Term,
+}
+
+// What one role owns.
+pub struct Core {
+    pub service: Mastership,
+    pub nodes: [Node; 8],
+    pub streams: [Stream; 8],
+    pub claims: Claims,
+}
+
+// An accepted write.
+pub struct Write {
+    pub node: u8,
+    pub term: Term,
+}
+
+pub struct History {
+    pub items: [Write; 1024],
+    pub len: u16,
+}
+
+pub struct State {
+    pub count: u8,
+    pub running: bool,
+    pub core: Core,
+    pub history: History,
+}
+
+// The streams and what the switch holds of their nodes: what Close, Handle update and Shutdown write.
+pub struct Wire {
+    pub streams: [Stream; 8],
+    pub claims: Claims,
+}
