@@ -1,9 +1,9 @@
 -- Laws of the id rule: the inverse gives the term back, and an id asked for by a mastership in range is in range. Assumes nothing.
-use mathlib.Core.Path.{_≡_, refl}
-use mathlib.Core.Logic.{_↔_, _≢_}
+use mathlib.Core.Path.{_≡_}
+use mathlib.Core.Logic.{_↔_}
 use mathlib.Core.Bool.{Bool, true, false, cond, _||_}
-use mathlib.Core.List.{List, [], _∷_}
-use Prim.Native.Nat.{ℕ, _+_, _-_, _≤_, _<_}
+use mathlib.Core.List.{_∷_}
+use Prim.Native.Nat.{ℕ, _+_, _≤_, _<_}
 use native.Mathlib.Omega.{arith}
 use lib.ListN.{length}
 use lib.Dec.{T, eqb}
@@ -11,7 +11,7 @@ use Rattle.rules.specs.Limits.{mostNodes, topTerm, topId}
 use Rattle.rules.specs.State.{Mastership}
 use Rattle.rules.specs.Queues.{has, before}
 use Rattle.rules.specs.Ids.{electionId, termOf, named, placeOf, idFor}
-use Rattle.laws.specs.InRange.{All, Within, BackupFits, MastershipFits}
+use Rattle.laws.specs.InRange.{Within, MastershipFits}
 use Rattle.laws.specs.Lists.{all-with, before-below, pigeonhole}
 
 -- ---- the rule and its inverse

@@ -1,31 +1,32 @@
 -- Every rule keeps a state in range. Assumes nothing.
-use mathlib.Core.Path.{_≡_, refl, _∙_}
-use mathlib.Core.Bool.{Bool, true, false, not, _&&_}
-use mathlib.Core.List.{List, [], _∷_, _++_}
-use Prim.Native.Nat.{ℕ, _+_, _-_, _≤_, _<_}
+use mathlib.Core.Path.{refl, _∙_}
+use mathlib.Core.Bool.{Bool, false, not}
+use mathlib.Core.List.{List, [], _++_}
+use Prim.Native.Nat.{ℕ, _-_, _≤_, _<_}
 use native.Mathlib.Omega.{arith}
 use lib.ListN.{length, getD, set, length-set, length-append}
 use lib.Seq.{set-getD}
 use lib.Dec.{T}
 use Rattle.rules.specs.Limits.{historyLength}
-use Rattle.rules.specs.State.{Mastership, Write, Desk, Wire, Core, State, blank}
-use Rattle.rules.specs.Part.{Part}
-use Rattle.rules.specs.Parts.{withCore, withWire, Inbox, Sent, Received, Telling, Serving, Power, servicePart, learnPart, sendPart, receivePart, onDevice, linkPart, tellPart, servePart, powerPart, part, service, learn, send, receive, link, tell, serve, power}
+use Rattle.rules.specs.State.{Write, Desk, Wire, Core, State, blank}
+use Rattle.rules.specs.Range.{within}
+use Rattle.rules.specs.Parts.{withCore, withWire, Inbox, Sent, Received, Telling, Serving, Power, servicePart, learnPart, sendPart, receivePart, onDevice, tellPart, servePart, powerPart, part, service}
 use Rattle.rules.specs.Rules.{connectRule, shutdownRule, startupRule, Kind, classOf, rule, join, leave, learns, sendUpdate, receiveUpdate, sendWrite, receiveWrite, connect, close, handleUpdate, handleWrite, shutdown, startup}
 use Rattle.rules.specs.Step.{called, act}
 use Rattle.laws.specs.InRange.{All, Within, QueueFits, MastershipFits, LearnedFits, unlearned, DeskFits, WireFits, WriteFits, CoreFits, InRange}
 use Rattle.laws.specs.Tests.{_&_, as-is, is-yes, is-within}
 use Rattle.laws.specs.Lists.{all-append, all-set, all-getD, queue-none}
-use Rattle.laws.specs.Decide.{Passes, via-leaves}
+use Rattle.laws.specs.Decide.{Passes, via-is}
 use Rattle.laws.specs.Wires.{own-queue, responses-fit, Anew, rewired-fits, open-fits, opened-fits}
+use Rattle.laws.specs.Answered.{sees, after}
 use Rattle.laws.specs.KeepsService.{join-fits, leave-fits}
 use Rattle.laws.specs.KeepsNode.{InboxFits, learn-fits, SentFits, send-update-fits, send-write-fits, ReceivedFits, receive-update-fits, receive-write-fits}
-use Rattle.laws.specs.KeepsTelling.{seen, close-fits, handle-update-fits}
+use Rattle.laws.specs.KeepsTelling.{close-fits, handle-update-fits}
 use Rattle.laws.specs.KeepsSwitch.{ServingFits, handle-write-fits, cleared-fits, started-fits}
 
 -- ---- what a class writes, put into a state in range
 
-module _ (s : State) (r : InRange s) where
+module _ {s : State} (r : InRange s) where
   core-put : (c : Core) → CoreFits (s .count) (s .running) c → InRange (withCore c s)
   core-put c k = record { count = r .count; core = k; history-size = r .history-size; history = r .history }
 
@@ -57,9 +58,12 @@ module _ (s : State) (r : InRange s) where
   power-put : (v : Power) → WireFits (s .count) (v .running) (v .wire) → InRange (onDevice powerPart .put v s)
   power-put v k = device-put (v .running) (s .history) (v .wire) k (r .history-size) (r .history)
 
-  module _ (n : ℕ) (node : Within 1 (s .count) n) where
+  module _ (n : ℕ) (called : T (within 1 (s .count) n)) where
     abbrev opened : Bool
     opened = getD (s .core .wire .opens) (n - 1) false
+
+    node : Within 1 (s .count) n
+    node = is-within 1 (s .count) n .to called
 
     place : n - 1 < s .count
     place = let low : 1 ≤ n = node .lower in let high : n ≤ s .count = node .upper in omega arith
@@ -70,8 +74,8 @@ module _ (s : State) (r : InRange s) where
 
     send-put : (v : Sent) → SentFits opened v → InRange (sendPart n .put v s)
     send-put v k = let w = r .core .wire in wire-put _
-        (open-fits (s .count) (s .running) (s .core .wire) w n place (v .sent) (v .requests) (s .core .wire .responses) (s .core .wire .last)
-        (k .opened) (k .sent) (k .requests) (responses-fit (s .count) (s .running) (s .core .wire) w) (w .last))
+        (open-fits w n place (v .sent) (v .requests) (s .core .wire .responses) (s .core .wire .last)
+        (k .opened) (k .sent) (k .requests) (responses-fit w) (w .last))
 
     receive-put : (v : Received) → ReceivedFits opened v → InRange (receivePart n .put v s)
     receive-put v k = let c = r .core in let w = c .wire in core-put _ (record {
@@ -79,55 +83,52 @@ module _ (s : State) (r : InRange s) where
       learned-size = c .learned-size;
       learned = c .learned;
       says-size = length-set (s .core .says) (n - 1) (v .says) ∙ c .says-size;
-      wire = simp set-getD at (open-fits (s .count) (s .running) (s .core .wire) w n place
+      wire = simp set-getD at (open-fits w n place
           (getD (s .core .wire .sent) (n - 1) 0) (getD (s .core .wire .requests) (n - 1) []) (set (s .core .wire .responses) (n - 1) (v .responses)) (s .core .wire .last)
           (k .opened) (w .streams (n - 1) .sent-high) (w .streams (n - 1) .requests-fit)
-          (own-queue (s .count) (s .core .wire .opens) (s .core .wire .responses) (n - 1) (v .responses) (k .opened) (k .responses) (responses-fit (s .count) (s .running) (s .core .wire) w)) (w .last));
+          (own-queue (n - 1) (k .opened) (k .responses) (responses-fit w)) (w .last));
     })
 
     tell-put : (v : Telling) → Anew (s .count) (s .running) (s .core .wire) n v → InRange (onDevice (tellPart n) .put v s)
-    tell-put v k = let w = r .core .wire in wire-put _ (rewired-fits (s .count) (s .running) (s .core .wire) w n place v (s .core .wire .last) k (w .last))
+    tell-put v k = let w = r .core .wire in wire-put _ (rewired-fits w n place v (s .core .wire .last) k (w .last))
 
     serve-put : (v : Serving) → ServingFits (s .count) (length (s .history)) opened v → InRange (onDevice (servePart n) .put v s)
     serve-put v k = let w = r .core .wire in device-put (s .running) (s .history ++ v .accepted) _
-        (simp set-getD at (open-fits (s .count) (s .running) (s .core .wire) w n place
+        (simp set-getD at (open-fits w n place
         (getD (s .core .wire .sent) (n - 1) 0) (v .requests) (set (s .core .wire .responses) (n - 1) (v .responses)) (v .last)
         (k .opened) (w .streams (n - 1) .sent-high) (k .requests)
-        (own-queue (s .count) (s .core .wire .opens) (s .core .wire .responses) (n - 1) (v .responses) (k .opened) (k .responses) (responses-fit (s .count) (s .running) (s .core .wire) w)) (k .last)))
+        (own-queue (n - 1) (k .opened) (k .responses) (responses-fit w)) (k .last)))
         (rw (length-append (s .history) (v .accepted)) (k .size)) (all-append (WriteFits (s .count)) (s .history) (v .accepted) (r .history) (k .accepted))
 
     learned-at : LearnedFits (s .count) (getD (s .core .learned) (n - 1) blank)
     learned-at = all-getD (LearnedFits (s .count)) (s .core .learned) (n - 1) blank (unlearned refl) (r .core .learned)
 
+    events-at : QueueFits (MastershipFits (s .count)) (getD (s .core .desk .events) (n - 1) [])
+    events-at = all-getD (QueueFits (MastershipFits (s .count))) (s .core .desk .events) (n - 1) [] (queue-none (MastershipFits (s .count))) (r .core .desk .events)
+
 -- ---- every rule
 
 -- What a passing rule puts into a state in range is in range again.
-puts : (k : Kind) (n : ℕ) (s : State) → InRange s → T (called (classOf k) (s .count) n)
-    → Passes (rule k n) (part (classOf k) n .get s) → InRange (part (classOf k) n .put (rule k n .effect (part (classOf k) n .get s)) s)
+pub after-fits : (k : Kind) (n : ℕ) (s : State) → InRange s → T (called (classOf k) (s .count) n)
+    → Passes (rule k n) (sees k n s) → InRange (after k n s)
 unfolding connectRule shutdownRule startupRule
-puts join n s r c p = service-put s r _ (join-fits (s .count) n (s .core .desk) (is-within 1 (s .count) n .to c) (r .core .desk) p)
-puts leave n s r c p = service-put s r _ (leave-fits (s .count) n (s .core .desk) (is-within 1 (s .count) n .to c) (r .core .desk) p)
-puts learns n s r c p = learn-put s r n _ (learn-fits (s .count) (learnPart n .get s)
-    (all-getD (QueueFits (MastershipFits (s .count))) (s .core .desk .events) (n - 1) [] (queue-none (MastershipFits (s .count))) (r .core .desk .events)) p)
-puts sendUpdate n s r c p = let node = is-within 1 (s .count) n .to c in let y = r .core .wire .streams (n - 1) in
-    send-put s r n node _ (send-update-fits n (sendPart n .get s) (r .count) (learned-at s r n node) (y .sent-high) (y .requests-fit) p)
-puts sendWrite n s r c p = let node = is-within 1 (s .count) n .to c in let y = r .core .wire .streams (n - 1) in
-    send-put s r n node _ (send-write-fits n (sendPart n .get s) (r .count) (learned-at s r n node) (y .sent-high) (y .requests-fit) p)
-puts receiveUpdate n s r c p = let node = is-within 1 (s .count) n .to c in
-    receive-put s r n node _ (receive-update-fits (receivePart n .get s) (r .core .wire .streams (n - 1) .responses-fit) n p)
-puts receiveWrite n s r c p = let node = is-within 1 (s .count) n .to c in
-    receive-put s r n node _ (receive-write-fits (receivePart n .get s) (r .core .wire .streams (n - 1) .responses-fit) p)
-puts connect n s r c p = let node = is-within 1 (s .count) n .to c in
-    wire-put s r n node _ (opened-fits (s .count) (s .running) (s .core .wire) (r .core .wire) n (place s r n node)
-    ((is-yes (s .running) & as-is (not (getD (s .core .wire .opens) (n - 1) false))) .to (p .allowed) .0))
-puts close n s r c p = let node = is-within 1 (s .count) n .to c in
-    tell-put s r n node _ (close-fits (s .count) (s .running) (s .core .wire) (r .core .wire) n (place s r n node) p)
-puts handleUpdate n s r c p = let node = is-within 1 (s .count) n .to c in
-    tell-put s r n node _ (handle-update-fits (s .count) (s .running) (s .core .wire) (r .core .wire) n (place s r n node) p)
-puts handleWrite n s r c p = let node = is-within 1 (s .count) n .to c in let y = r .core .wire .streams (n - 1) in
-    serve-put s r n node _ (handle-write-fits (s .count) n node (onDevice (servePart n) .get s) (y .requests-fit) (y .responses-fit) (y .term-high) (r .core .wire .last) (r .history-size) p)
-puts shutdown n s r c p = power-put s r _ (cleared-fits (s .count) (s .running) false (s .core .wire) (r .core .wire))
-puts startup n s r c p = power-put s r _ (started-fits (s .count) (s .running) (s .core .wire) (r .core .wire))
+after-fits join n s r c p = service-put r _ (join-fits (s .count) n (s .core .desk) (node r n c) (r .core .desk) p)
+after-fits leave n s r c p = service-put r _ (leave-fits (s .count) n (s .core .desk) (r .core .desk) p)
+after-fits learns n s r c p = learn-put r n _ (learn-fits (s .count) (sees learns n s) (events-at r n c) p)
+after-fits sendUpdate n s r c p = let y = r .core .wire .streams (n - 1) in
+    send-put r n c _ (send-update-fits n (sees sendUpdate n s) (r .count) (learned-at r n c) (y .sent-high) (y .requests-fit) p)
+after-fits receiveUpdate n s r c p = receive-put r n c _ (receive-update-fits (sees receiveUpdate n s) (r .core .wire .streams (n - 1) .responses-fit) n p)
+after-fits sendWrite n s r c p = let y = r .core .wire .streams (n - 1) in
+    send-put r n c _ (send-write-fits n (sees sendWrite n s) (r .count) (learned-at r n c) (y .sent-high) (y .requests-fit) p)
+after-fits receiveWrite n s r c p = receive-put r n c _ (receive-write-fits (sees receiveWrite n s) (r .core .wire .streams (n - 1) .responses-fit) p)
+after-fits connect n s r c p =
+    wire-put r n c _ (opened-fits (r .core .wire) n (place r n c) ((is-yes (s .running) & as-is (not (opened r n c))) .to (p .allowed) .0))
+after-fits close n s r c p = tell-put r n c _ (close-fits (r .core .wire) n (place r n c) p)
+after-fits handleUpdate n s r c p = tell-put r n c _ (handle-update-fits (r .core .wire) n (place r n c) p)
+after-fits handleWrite n s r c p = let y = r .core .wire .streams (n - 1) in
+    serve-put r n c _ (handle-write-fits (s .count) n (node r n c) (sees handleWrite n s) (y .requests-fit) (y .responses-fit) (y .term-high) (r .core .wire .last) (r .history-size) p)
+after-fits shutdown n s r c p = power-put r _ (cleared-fits false (r .core .wire))
+after-fits startup n s r c p = power-put r _ (started-fits (r .core .wire))
 
 pub keeps : (k : Kind) (n : ℕ) (s : State) → InRange s → T (called (classOf k) (s .count) n) → InRange (act k n s .state)
-keeps k n s r c = via-leaves InRange (part (classOf k) n) s r (rule k n) (puts k n s r c)
+keeps k n s r c = via-is (λ x. InRange (x .state)) (part (classOf k) n) (rule k n) s (λ a d. r) (after-fits k n s r c)

@@ -1,16 +1,15 @@
 -- What a node writes by learning, sending and receiving is in range. Assumes nothing.
 use mathlib.Core.Path.{_≡_, ap}
 use mathlib.Core.Bool.{Bool, true, not, _&&_}
-use mathlib.Core.List.{List}
 use Prim.Native.Nat.{ℕ, _≤_, _<_}
 use native.Mathlib.Omega.{arith}
-use lib.Dec.{T, eqb, leb, ltb}
+use lib.Dec.{T}
 use Rattle.rules.specs.Limits.{mostNodes, topTerm}
 use Rattle.rules.specs.State.{Mastership, blank}
 use Rattle.rules.specs.Queues.{first, empty}
 use Rattle.rules.specs.Ids.{named}
 use Rattle.rules.specs.Parts.{Inbox, Sender, Sent, Receiver, Received}
-use Rattle.rules.specs.Rules.{learnRule, sendUpdateRule, sendWriteRule, receiveUpdateRule, receiveWriteRule, isUpdate, isWrite, noResponse}
+use Rattle.rules.specs.Rules.{learnRule, sendUpdateRule, sendWriteRule, receiveUpdateRule, receiveWriteRule}
 use Rattle.laws.specs.InRange.{Within, QueueFits, MastershipFits, LearnedFits, unlearned, knows, RequestFits, ResponseFits}
 use Rattle.laws.specs.Tests.{_&_, as-is, is-yes, is-lt, is-le, is-eq}
 use Rattle.laws.specs.Lists.{queue-rest, queue-first, queue-push}

@@ -1,18 +1,18 @@
 -- Joining and leaving keep the service and the event queues in range. Assumes nothing.
-use mathlib.Core.Path.{_≡_, refl, sym, ap, _∙_}
+use mathlib.Core.Path.{_≡_, refl, sym, _∙_}
 use mathlib.Core.Logic.{_≢_}
-use mathlib.Core.Bool.{Bool, true, false, not, cond, _&&_, _||_}
+use mathlib.Core.Bool.{Bool, true, false, not, cond, _||_}
 use mathlib.Core.List.{List, [], _∷_, map}
-use Prim.Native.Nat.{ℕ, _+_, _≤_, _<_}
+use Prim.Native.Nat.{ℕ, _+_, _<_}
 use native.Mathlib.Omega.{arith}
-use lib.ListN.{length, length-map}
+use lib.ListN.{length-map}
 use lib.Dec.{T, eqb, ltb}
 use Rattle.rules.specs.Limits.{topTerm}
 use Rattle.rules.specs.State.{Mastership, Desk}
 use Rattle.rules.specs.Queues.{push, first, rest, empty, room, roomAll, has, remove}
 use Rattle.rules.specs.Ids.{named}
 use Rattle.rules.specs.Rules.{posted, unposted, vacant, joined, joinRule, handsOver, left, leaveRule}
-use Rattle.laws.specs.InRange.{All, Absent, Distinct, Within, QueueFits, BackupFits, MastershipFits, ServiceFits, masterless, ruled, DeskFits}
+use Rattle.laws.specs.InRange.{All, Distinct, Within, QueueFits, BackupFits, MastershipFits, ServiceFits, masterless, ruled, DeskFits}
 use Rattle.laws.specs.Tests.{_&_, is-neither, as-is, is-lt, is-ne, is-eq, is-absent}
 use Rattle.laws.specs.Lists.{all-with, all-push, queue-push, distinct-push, all-remove, distinct-remove}
 use Rattle.laws.specs.Decide.{Passes}
@@ -110,9 +110,9 @@ module _ (count : ℕ) where
         distinct = distinct-remove n (m .backups) (k .distinct);
       })
 
-  pub leave-fits : (n : ℕ) (d : Desk) → Within 1 count n → DeskFits count d → Passes (leaveRule n) d → DeskFits count (leaveRule n .effect d)
+  pub leave-fits : (n : ℕ) (d : Desk) → DeskFits count d → Passes (leaveRule n) d → DeskFits count (leaveRule n .effect d)
   unfolding leaveRule left unposted
-  leave-fits n d node h p = go (handsOver n (d .service)) refl (p .term) (p .queues)
+  leave-fits n d h p = go (handsOver n (d .service)) refl (p .term) (p .queues)
     where
       go : (b : Bool) → handsOver n (d .service) ≡ b → T (not b || ltb (d .service .term) topTerm) → T (not b || roomAll (d .events)) → DeskFits count (leaveRule n .effect d)
       go true e t q = rw e (posted-fits _ d (handed-fits n (d .service) (rw e tt) (is-lt (d .service .term) topTerm .to t) (h .service)) q h)

@@ -1,18 +1,17 @@
--- Handling a write, stopping and starting keep the switch in range; and so does a fresh wire. Assumes nothing.
-use mathlib.Core.Path.{_≡_, refl, sym, ap, _∙_}
-use mathlib.Core.Logic.{_≢_}
-use mathlib.Core.Bool.{Bool, true, false, not, cond, _&&_, _||_, true≢false}
+-- Handling a write, stopping and starting keep the switch in range, and a wire with nothing on it is in range. Assumes nothing.
+use mathlib.Core.Path.{_≡_, refl, ap}
+use mathlib.Core.Bool.{Bool, true, false, not, cond, _||_, true≢false}
 use mathlib.Core.List.{List, [], _∷_, map}
-use Prim.Native.Nat.{ℕ, zero, suc, _+_, _≤_, _<_}
+use Prim.Native.Nat.{ℕ, zero, suc, _+_, _≤_}
 use native.Mathlib.Omega.{arith}
 use lib.ListN.{length, getD, replicate, length-replicate}
 use lib.Dec.{T, ltb}
 use Rattle.rules.specs.Limits.{topTerm, historyLength}
-use Rattle.rules.specs.State.{Request, Response, Message, write, Status, ok, permissionDenied, Write, Wire}
-use Rattle.rules.specs.Queues.{push, first, rest, empty, room}
+use Rattle.rules.specs.State.{Request, Response, Status, ok, permissionDenied, Wire}
+use Rattle.rules.specs.Queues.{push, first, rest, empty}
 use Rattle.rules.specs.Parts.{Served, Serving}
 use Rattle.rules.specs.Rules.{isWrite, noRequest, accepts, writeAnswer, handleWriteRule, cleared}
-use Rattle.laws.specs.InRange.{All, DistinctIds, Within, QueueFits, RequestFits, ResponseFits, StreamFits, WriteFits, WireFits}
+use Rattle.laws.specs.InRange.{All, DistinctIds, Within, QueueFits, RequestFits, ResponseFits, WriteFits, WireFits}
 use Rattle.laws.specs.Tests.{_&_, as-is, is-yes, is-lt}
 use Rattle.laws.specs.RangeTest.{no-stream}
 use Rattle.laws.specs.Lists.{queue-rest, queue-first, queue-push}
@@ -103,9 +102,9 @@ no-wire-fits count running last u = record {
     no-ids zero = tt
     no-ids (suc n) = ((λ z. absurd (z refl)), no-ids n)
 
-pub cleared-fits : (count : ℕ) (running running′ : Bool) (w : Wire) → WireFits count running w → WireFits count running′ (cleared w)
+pub cleared-fits : {count : ℕ} {running : Bool} {w : Wire} (running′ : Bool) → WireFits count running w → WireFits count running′ (cleared w)
 unfolding cleared
-cleared-fits count running running′ w h = rw (
+cleared-fits {count} {w = w} running′ h = rw (
   same (w .opens) false,
   same {B = ℕ} (w .sent) 0,
   same {B = List Request} (w .requests) [],
@@ -126,8 +125,8 @@ cleared-fits count running running′ w h = rw (
 
 -- ---- 13 Startup
 
-pub started-fits : (count : ℕ) (running : Bool) (w : Wire) → WireFits count running w → WireFits count true w
-started-fits count running w h = record {
+pub started-fits : {count : ℕ} {running : Bool} {w : Wire} → WireFits count running w → WireFits count true w
+started-fits h = record {
   opens-size = h .opens-size;
   sent-size = h .sent-size;
   requests-size = h .requests-size;

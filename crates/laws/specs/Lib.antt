@@ -1,13 +1,16 @@
 pub mod Computed
 pub mod InRange
+pub mod Answered
 pub mod Tests
 pub mod RangeTest
 pub mod Lists
 pub mod Ids
 pub mod Decide
-pub mod KeepsService
 pub mod Wires
+pub mod KeepsService
 pub mod KeepsNode
 pub mod KeepsTelling
 pub mod KeepsSwitch
 pub mod Keeps
+pub mod Answers
+pub mod Steps

@@ -1,19 +1,18 @@
 -- The test `inRange` is true exactly of the states in range. Assumes nothing.
 use mathlib.Core.Path.{_≡_, refl, ap}
 use mathlib.Core.Logic.{_≢_}
-use mathlib.Core.Bool.{Bool, true, false, not, cond, _&&_, _||_}
-use mathlib.Core.List.{List, [], _∷_}
+use mathlib.Core.Bool.{Bool, false, cond}
+use mathlib.Core.List.{List, []}
 use Prim.Native.Nat.{ℕ, _≤_, _<_}
 use native.Mathlib.Omega.{arith}
 use native.Mathlib.Decide.{decLt, ℕ-discrete}
 use lib.ListN.{length, getD, List·getD-eq-default}
-use lib.Dec.{T, leb, eqb}
+use lib.Dec.{T, eqb}
 use borrow.Author.Tests.{eq-eqb, ne-eqb}
 use Rattle.rules.specs.Limits.{mostNodes, topTerm, topId, queueLength, historyLength}
 use Rattle.rules.specs.State.{Mastership, Message, update, write, Status, ok, alreadyExists, permissionDenied, Request, Response, Write, Desk, Wire, Core, State}
-use Rattle.rules.specs.Queues.{empty}
 use Rattle.rules.specs.Range.{queueFits, backupFits, mastershipFits, serviceFits, learnedFits, deskFits, requestFits, answerFits, responseFits, streamFits, wireFits, writeFits, coreFits, inRange}
-use Rattle.laws.specs.InRange.{All, QueueFits, BackupFits, MastershipFits, ServiceFits, masterless, ruled, LearnedFits, unlearned, knows, DeskFits, RequestFits, AnswerFits, ResponseFits, Shut, StreamFits, StreamAt, WireFits, WriteFits, CoreFits, InRange}
+use Rattle.laws.specs.InRange.{QueueFits, BackupFits, MastershipFits, ServiceFits, masterless, ruled, LearnedFits, unlearned, knows, DeskFits, RequestFits, AnswerFits, ResponseFits, StreamFits, StreamAt, WireFits, WriteFits, CoreFits, InRange}
 use Rattle.laws.specs.Tests.{Is, is-map, _&_, is-not, is-unless, is-le, is-eq, is-ne, is-within, is-empty, is-all, is-each, is-distinct, is-distinct-ids}
 
 -- ---- the service and the nodes

@@ -1,8 +1,7 @@
 -- A wire stays in range where one stream, and with it the response queues, is written anew. Assumes nothing.
-use mathlib.Core.Path.{_≡_, refl, sym, ap, _∙_}
-use mathlib.Core.Logic.{_≢_}
+use mathlib.Core.Path.{_≡_, sym, ap, _∙_}
 use mathlib.Core.Bool.{Bool, true, false, true≢false}
-use mathlib.Core.List.{List, [], _∷_}
+use mathlib.Core.List.{List, []}
 use Prim.Native.Nat.{ℕ, _-_, _≤_, _<_}
 use native.Mathlib.Decide.{ℕ-discrete}
 use lib.ListN.{length, getD, set, length-set}
@@ -10,7 +9,7 @@ use lib.Seq.{getD-set-same, getD-set-other, set-getD}
 use Rattle.rules.specs.Limits.{topTerm, topId}
 use Rattle.rules.specs.State.{Request, Response, Wire}
 use Rattle.rules.specs.Parts.{Telling}
-use Rattle.laws.specs.InRange.{All, DistinctIds, QueueFits, RequestFits, ResponseFits, Shut, StreamFits, StreamAt, WireFits}
+use Rattle.laws.specs.InRange.{All, DistinctIds, QueueFits, RequestFits, ResponseFits, Shut, StreamAt, WireFits}
 use Rattle.laws.specs.Lists.{at-set}
 
 -- All response queues, by who is open.
@@ -20,9 +19,9 @@ pub record ResponsesFit (count : ℕ) (opens : List Bool) (qs : List (List Respo
   pub closed : (i : ℕ) → getD opens i false ≡ false → getD qs i [] ≡ []
 
 -- One open stream's queue anew.
-pub own-queue : (count : ℕ) (opens : List Bool) (qs : List (List Response)) (j : ℕ) (q : List Response)
+pub own-queue : {count : ℕ} {opens : List Bool} {qs : List (List Response)} (j : ℕ) {q : List Response}
     → getD opens j false ≡ true → QueueFits ResponseFits q → ResponsesFit count opens qs → ResponsesFit count opens (set qs j q)
-own-queue count opens qs j q o k h = record {
+own-queue {opens = opens} {qs = qs} j {q} o k h = record {
   size = length-set qs j q ∙ h .size;
   queues = λ i. at-set (QueueFits ResponseFits) qs j i q [] k (h .queues i);
   closed = λ i e. getD-set-other qs j i q [] (λ z. true≢false (sym o ∙ ap (λ (l : ℕ). getD opens l false) (sym z) ∙ e)) ∙ h .closed i e;
@@ -51,7 +50,7 @@ pub record Anew (count : ℕ) (running : Bool) (w : Wire) (n : ℕ) (x : Telling
   pub distinct : DistinctIds (set (w .ids) (n - 1) (x .id))
   pub stopped : running ≡ false → All (λ o. o ≡ false) (set (w .opens) (n - 1) (x .isOpen))
 
-module _ (count : ℕ) (running : Bool) (w : Wire) (h : WireFits count running w) where
+module _ {count : ℕ} {running : Bool} {w : Wire} (h : WireFits count running w) where
   pub responses-fit : ResponsesFit count (w .opens) (w .responses)
   responses-fit = record { size = h .responses-size; queues = λ i. h .streams i .responses-fit; closed = λ i e. h .streams i .shut e .no-responses }
 

@@ -47,7 +47,7 @@ packMessage S.update = M.Update
 packMessage S.write = M.Write
 
 abbrev pub holdStatus : Status → S.Status
-holdStatus T.Nothing = S.ok
+holdStatus T.Nothing = S.permissionDenied
 holdStatus T.Ok = S.ok
 holdStatus T.AlreadyExists = S.alreadyExists
 holdStatus T.PermissionDenied = S.permissionDenied

@@ -1,0 +1,30 @@
+-- `learn` meets its contract. Assumes nothing.
+use mathlib.Core.Path.{_≡_, refl, sym, ap, _∙_}
+use Rattle.rules.specs.Rules.{learnRule}
+use Rattle.parts.specs.Ordered.{pop-events}
+use Rattle.nodes.specs.Rules.{head-event}
+use Rattle.parts.specs.declared.EventQueue.{EventQueue}
+use Rattle.parts.specs.declared.Mastership.{Mastership}
+use borrow.Author.Needs.{needs}
+use Rattle.nodes.proofs.learn.Statement.{statement}
+use Rattle.nodes.proofs.learn.Tie as tie
+
+element-copy-out-head : tie.Need-element-copy-out-head
+element-copy-out-head c = search needs
+
+pop-requires : tie.Need-pop-requires
+pop-requires c κs = search needs
+
+returns : tie.Need-returns
+unfolding learnRule
+returns c = 
+    let start = c .before .before .before in
+    let q = start .args .node .events in
+    λ i. record {
+      events = (c .pop .ensures ∙ pop-events q (start .pre .events)) i;
+      learned = head-event q (start .pre .events) i;
+      says = start .args .node .says;
+    }
+
+pub learn-spec : {M : Type 1} → statement M
+learn-spec = tie.close (tie.spec element-copy-out-head pop-requires returns)

@@ -1,0 +1,27 @@
+-- `may_send_update` meets its contract. Assumes nothing.
+use mathlib.Core.Path.{_≡_, refl, sym, ap, _∙_}
+use Prim.Native.Nat.{_<_}
+use borrow.Author.Tests.{lt-ltb, le-ltb}
+use mathlib.Core.Bool.{and-false}
+use Rattle.rules.specs.Rules.{sendUpdateRule}
+use borrow.Author.Needs.{needs}
+use Rattle.nodes.proofs.may_send_update.Statement.{statement}
+use Rattle.nodes.proofs.may_send_update.Tie as tie
+
+names-requires : tie.Need-names-requires
+names-requires c κs = search needs
+
+returns : tie.Need-returns
+unfolding sendUpdateRule
+returns c = simp (c .before .before .before .before .if1 .taken, lt-ltb _ _ (c .before .if2 .taken), lt-ltb 0 (c .before .before .before .before .before .before .args .node .learned .term .0) (omega arith)) (c .names .ensures)
+
+returns-2 : tie.Need-returns-2
+unfolding sendUpdateRule
+returns-2 c = simp (le-ltb _ _ (c .if2 .left), and-false)
+
+returns-3 : tie.Need-returns-3
+unfolding sendUpdateRule
+returns-3 c = simp (c .if1 .left)
+
+pub may-send-update-spec : {M : Type 1} → statement M
+may-send-update-spec = tie.close (tie.spec names-requires returns returns-2 returns-3)

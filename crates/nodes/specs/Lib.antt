@@ -1,0 +1,2 @@
+pub mod Waiting
+pub mod Rules

@@ -1,0 +1,218 @@
+// What a controller node does: kinds 3 to 7. Each kind has a test or an answer code, which only reads, and an effect.
+ghost use mathlib.Core.Path.{_≡_};
+ghost use mathlib.Core.Bool.{false};
+ghost use lib.Dec.{leb};
+ghost use Rattle.rules.specs.Limits.{queueLength};
+ghost use Rattle.rules.specs.Rules.{learnRule, sendUpdateRule, receiveUpdateRule, sendWriteRule, isWrite, isOk};
+ghost use Rattle.parts.specs.Hold.{holdMessage, holdStatus};
+ghost use Rattle.state.specs.Order.{OrderedNode, OrderedStream};
+ghost use Rattle.state.specs.Reads.{inboxOf, senderOf, receiverOf};
+ghost use Rattle.state.specs.Stores.{storeInbox, storeSent};
+ghost use Rattle.nodes.specs.Waiting.{sendAnswer, Waits, updateWaits, writeWaits, received};
+use parts::election_id;
+use parts::term_of;
+use parts::Message;
+use parts::Request;
+use parts::Status;
+use state::Node;
+use state::Stream;
+
+// 3 Learn: whether the rule allows it.
+pub fn may_learn(node: Node) -> bool
+    requires { ⌜ OrderedNode node ⌝ }
+    ensures { λ r. ⌜ r ≡ learnRule .allowed (inboxOf node) ⌝ }
+{
+    let events = node.events;
+    if events.len == 0 {
+        return false;
+    }
+    let head = events.items[0];
+    let learned = node.learned;
+    learned.term.0 <= head.term.0
+}
+
+// 3 Learn: the head of the events becomes the learned mastership.
+pub fn learn(node: Node) -> Node
+    requires { ⌜ OrderedNode node ⌝ }
+    ensures { λ r. ⌜ r ≡ storeInbox (learnRule .effect (inboxOf node)) node ⌝ }
+{
+    let events = node.events;
+    let head = events.items[0];
+    let rest = events.pop();
+    Node {
+        events: rest,
+        learned: head,
+        says: node.says,
+    }
+}
+
+// The answer of a step that sends: allowed or not, and room for one request more.
+pub fn send_code(allowed: bool, stream: Stream) -> u8
+    ensures { λ r. ⌜ r ≡ sendAnswer allowed (leb queueLength (stream .requests .len)) ⌝ }
+{
+    if allowed {
+        let requests = stream.requests;
+        if requests.full() {
+            return parts::QUEUE_FULL;
+        }
+        return parts::DONE;
+    }
+    parts::NOT_ALLOWED
+}
+
+// 4 Send update: whether the rule allows it.
+pub fn may_send_update(count: u8, number: u8, node: Node, stream: Stream) -> bool
+    ensures { λ r. ⌜ r ≡ sendUpdateRule number .allowed (senderOf count node stream) ⌝ }
+{
+    let learned = node.learned;
+    if stream.opened {
+        if stream.sent.0 < learned.term.0 {
+            return learned.names(number);
+        }
+    }
+    false
+}
+
+// 4 Send update: the request goes last, and its term is the one last sent.
+pub fn send_update(count: u8, number: u8, node: Node, stream: Stream) -> Stream
+    requires { ⌜ OrderedStream stream × (leb queueLength (stream .requests .len) ≡ false) ⌝ }
+    ensures { λ r. ⌜ r ≡ storeSent (sendUpdateRule number .effect (senderOf count node stream)) stream ⌝ }
+{
+    let learned = node.learned;
+    let term = learned.term;
+    let place = learned.place_of(number);
+    let id = election_id(count, term, place);
+    let requests = stream.requests;
+    let request = Request {
+        message: Message::Update,
+        id: id,
+        term: term,
+    };
+    let mut next = stream;
+    next.sent = term;
+    next.requests = requests.push(request);
+    next
+}
+
+// 6 Send write: whether the rule allows it.
+pub fn may_send_write(count: u8, number: u8, node: Node, stream: Stream) -> bool
+    ensures { λ r. ⌜ r ≡ sendWriteRule number .allowed (senderOf count node stream) ⌝ }
+{
+    let learned = node.learned;
+    if stream.opened {
+        if 0 < learned.term.0 {
+            if learned.master == number {
+                return node.says;
+            }
+        }
+    }
+    false
+}
+
+// 6 Send write: the request goes last.
+pub fn send_write(count: u8, number: u8, node: Node, stream: Stream) -> Stream
+    requires { ⌜ OrderedStream stream × (leb queueLength (stream .requests .len) ≡ false) ⌝ }
+    ensures { λ r. ⌜ r ≡ storeSent (sendWriteRule number .effect (senderOf count node stream)) stream ⌝ }
+{
+    let learned = node.learned;
+    let term = learned.term;
+    let id = election_id(count, term, 0);
+    let requests = stream.requests;
+    let request = Request {
+        message: Message::Write,
+        id: id,
+        term: term,
+    };
+    let mut next = stream;
+    next.requests = requests.push(request);
+    next
+}
+
+// Whether a message is about a write.
+pub fn is_write(message: Message) -> bool
+    ensures { λ r. ⌜ r ≡ isWrite (holdMessage message) ⌝ }
+{
+    match message {
+        Message::Write => true,
+        Message::Update => false,
+        Message::Nothing => false,
+    }
+}
+
+// Whether a status is Ok.
+pub fn is_ok(status: Status) -> bool
+    ensures { λ r. ⌜ r ≡ isOk (holdStatus status) ⌝ }
+{
+    match status {
+        Status::Ok => true,
+        Status::AlreadyExists => false,
+        Status::PermissionDenied => false,
+        Status::Nothing => false,
+    }
+}
+
+// 5 Receive update: whether the rule allows it.
+pub fn may_receive_update(stream: Stream) -> bool
+    requires { ⌜ OrderedStream stream ⌝ }
+    ensures { λ r. ⌜ r ≡ updateWaits stream ⌝ }
+{
+    if stream.opened {
+        let responses = stream.responses;
+        if responses.len == 0 {
+            return false;
+        }
+        let head = responses.items[0];
+        let message = head.message;
+        return !is_write(message);
+    }
+    false
+}
+
+// 5 Receive update: the flag that the head of the responses leaves.
+pub fn confirmed(count: u8, number: u8, node: Node, stream: Stream) -> bool
+    requires { ⌜ Waits stream ⌝ }
+    ensures { λ r. ⌜ r ≡ receiveUpdateRule number .effect (receiverOf count node stream) .says ⌝ }
+{
+    let responses = stream.responses;
+    let head = responses.items[0];
+    let learned = node.learned;
+    let id = head.id;
+    if learned.master == number {
+        if stream.sent.0 == learned.term.0 {
+            let term = term_of(count, id);
+            if term.0 == learned.term.0 {
+                let status = head.status;
+                return is_ok(status);
+            }
+        }
+    }
+    false
+}
+
+// 7 Receive write: whether the rule allows it.
+pub fn may_receive_write(stream: Stream) -> bool
+    requires { ⌜ OrderedStream stream ⌝ }
+    ensures { λ r. ⌜ r ≡ writeWaits stream ⌝ }
+{
+    if stream.opened {
+        let responses = stream.responses;
+        if responses.len == 0 {
+            return false;
+        }
+        let head = responses.items[0];
+        let message = head.message;
+        return is_write(message);
+    }
+    false
+}
+
+// 5, 7: the head of the responses is taken off.
+pub fn receive(stream: Stream) -> Stream
+    requires { ⌜ OrderedStream stream ⌝ }
+    ensures { λ r. ⌜ r ≡ received stream ⌝ }
+{
+    let responses = stream.responses;
+    let mut next = stream;
+    next.responses = responses.pop();
+    next
+}
