@@ -91,9 +91,15 @@ module _ (s : Stream) (o : OrderedStream s) where
 
 -- ---- 5 the flag
 
+-- one test of four fails
+no-second : (a b c d : Bool) → b ≡ false → (a && b && c && d) ≡ false
+no-second true b c d e = simp e
+no-second false b c d e = refl
+
 no-third : (a b c d : Bool) → c ≡ false → (a && b && c && d) ≡ false
-no-third a true c d e = simp (e, and-false)
-no-third a false c d e = simp and-false
+no-third true true c d e = simp e
+no-third true false c d e = refl
+no-third false b c d e = refl
 
 module _ (count n : ℕ) (r : Node) (s : Stream) (h : Waits s) where
   head : Response
@@ -137,3 +143,18 @@ module _ (count n : ℕ) (r : Node) (s : Stream) (h : Waits s) where
   pub flag-other-master : r .learned .master ≢ n → false ≡ receiveUpdateRule n .effect (receiverOf count r s) .says
   unfolding receiveUpdateRule confirms
   flag-other-master f = simp (ne-eqb _ _ f, and-false)
+
+-- ---- 4, 6 Send
+
+module _ (count n : ℕ) (r : Node) (s : Stream) where
+  pub update-sent : r .learned .term .0 ≤ s .sent .0 → false ≡ sendUpdateRule n .allowed (senderOf count r s)
+  unfolding sendUpdateRule
+  update-sent h = sym (no-third (s .opened) (ltb 0 (r .learned .term .0)) _ (named n (holdMastership (r .learned))) (le-ltb (s .sent .0) (r .learned .term .0) h))
+
+  pub write-untermed : r .learned .term .0 ≤ 0 → false ≡ sendWriteRule n .allowed (senderOf count r s)
+  unfolding sendWriteRule
+  write-untermed h = sym (no-second (s .opened) _ (eqb (r .learned .master) n) (r .says) (le-ltb 0 (r .learned .term .0) h))
+
+  pub write-other : r .learned .master ≢ n → false ≡ sendWriteRule n .allowed (senderOf count r s)
+  unfolding sendWriteRule
+  write-other h = sym (no-third (s .opened) (ltb 0 (r .learned .term .0)) _ (r .says) (ne-eqb (r .learned .master) n h))

@@ -18,19 +18,19 @@ enum-told-4 c = search needs
 
 returns : tie.Need-returns
 unfolding isOk
-returns c = simp (c .enum-told .given)
+returns c = simp (c .enum-told .given .1)
 
 returns-2 : tie.Need-returns-2
 unfolding isOk
-returns-2 c = simp (c .enum-told2 .given)
+returns-2 c = simp (c .enum-told2 .given .1)
 
 returns-3 : tie.Need-returns-3
 unfolding isOk
-returns-3 c = simp (c .enum-told3 .given)
+returns-3 c = simp (c .enum-told3 .given .1)
 
 returns-4 : tie.Need-returns-4
 unfolding isOk
-returns-4 c = simp (c .enum-told4 .given)
+returns-4 c = simp (c .enum-told4 .given .1)
 
 pub is-ok-spec : {M : Type 1} → statement M
 is-ok-spec =

@@ -1,8 +1,9 @@
 -- `may_send_update` meets its contract. Assumes nothing.
 use mathlib.Core.Path.{_≡_, refl, sym, ap, _∙_}
 use Prim.Native.Nat.{_<_}
-use borrow.Author.Tests.{lt-ltb, le-ltb}
-use mathlib.Core.Bool.{and-false}
+use borrow.Author.Tests.{lt-ltb}
+use native.Mathlib.Omega.{arith}
+use Rattle.nodes.specs.Rules.{update-sent}
 use Rattle.rules.specs.Rules.{sendUpdateRule}
 use borrow.Author.Needs.{needs}
 use Rattle.nodes.proofs.may_send_update.Statement.{statement}
@@ -16,8 +17,7 @@ unfolding sendUpdateRule
 returns c = simp (c .before .before .before .before .if1 .taken, lt-ltb _ _ (c .before .if2 .taken), lt-ltb 0 (c .before .before .before .before .before .before .args .node .learned .term .0) (omega arith)) (c .names .ensures)
 
 returns-2 : tie.Need-returns-2
-unfolding sendUpdateRule
-returns-2 c = simp (le-ltb _ _ (c .if2 .left), and-false)
+returns-2 c = let a = c .before .before .before .before .before .args in update-sent (a .count) (a .number) (a .node) (a .stream) (c .if2 .left)
 
 returns-3 : tie.Need-returns-3
 unfolding sendUpdateRule

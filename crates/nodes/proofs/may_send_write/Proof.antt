@@ -1,7 +1,7 @@
 -- `may_send_write` meets its contract. Assumes nothing.
 use mathlib.Core.Path.{_≡_, refl, sym, ap, _∙_}
-use borrow.Author.Tests.{lt-ltb, le-ltb, eq-eqb, ne-eqb}
-use mathlib.Core.Bool.{and-false}
+use borrow.Author.Tests.{lt-ltb, eq-eqb}
+use Rattle.nodes.specs.Rules.{write-other, write-untermed}
 use Rattle.rules.specs.Rules.{sendWriteRule}
 use Rattle.nodes.proofs.may_send_write.Statement.{statement}
 use Rattle.nodes.proofs.may_send_write.Tie as tie
@@ -11,12 +11,10 @@ unfolding sendWriteRule
 returns c = simp (c .before .before .before .before .if1 .taken, lt-ltb _ _ (c .before .before .if2 .taken), eq-eqb _ _ (c .if3 .taken))
 
 returns-2 : tie.Need-returns-2
-unfolding sendWriteRule
-returns-2 c = simp (ne-eqb _ _ (c .if3 .left), and-false)
+returns-2 c = let a = c .before .before .before .before .before .before .args in write-other (a .count) (a .number) (a .node) (a .stream) (c .if3 .left)
 
 returns-3 : tie.Need-returns-3
-unfolding sendWriteRule
-returns-3 c = simp (le-ltb _ _ (c .if2 .left), and-false)
+returns-3 c = let a = c .before .before .before .before .args in write-untermed (a .count) (a .number) (a .node) (a .stream) (c .if2 .left)
 
 returns-4 : tie.Need-returns-4
 unfolding sendWriteRule

@@ -1,27 +1,41 @@
+-- `send_update` meets its contract. Assumes nothing.
+use mathlib.Core.Path.{_≡_, refl, sym, ap, _∙_}
+use Prim.Native.Nat.{ℕ}
+use Rattle.rules.specs.State as S
+use Rattle.rules.specs.Ids.{electionId, idFor}
+use Rattle.rules.specs.Rules.{sendUpdateRule}
+use Rattle.parts.specs.Hold.{packRequest}
+use Rattle.parts.specs.Queues.{pushRequest}
+use Rattle.parts.specs.Ordered.{push-requests}
 use borrow.Author.Needs.{needs}
 use Rattle.nodes.proofs.send_update.Statement.{statement}
 use Rattle.nodes.proofs.send_update.Tie as tie
-use Rattle.nodes.proofs.send_update.Reads as reads
-use Rattle.nodes.proofs.send_update.Lts as lts
-use Rattle.parts.proofs.Mastership.place_of.Reads as place-of-reads
-use Rattle.parts.proofs.RequestQueue.push.Reads as push-reads
-use Rattle.parts.proofs.election_id.Reads as election-id-reads
 
--- src/lib.rt:83:9
 place-of-requires : tie.Need-place-of-requires
 place-of-requires c κs = search needs
 
--- src/lib.rt:84:9
 election-id-requires : tie.Need-election-id-requires
 election-id-requires c κs = search needs
 
--- src/lib.rt:93:5
 push-requires : tie.Need-push-requires
 push-requires c κs = search needs
 
--- src/lib.rt:77:1
 returns : tie.Need-returns
-returns c = ?
+unfolding sendUpdateRule idFor
+returns c = 
+    let start = c .before .before .before .before .before .before in
+    let a = start .args in
+    let s = a .stream in
+    let asked : ℕ → S.Request = λ id. record { message = S.update; id = id; term = a .node .learned .term .0 } in
+    λ i. record {
+      opened = s .opened;
+      sent = a .node .learned .term;
+      requests =
+          (c .push .ensures
+          ∙ ap (λ (id : ℕ). pushRequest (s .requests) (packRequest (asked id))) (c .before .before .election-id .ensures ∙ ap (electionId (a .count) (a .node .learned .term .0)) (c .before .before .before .place-of .ensures))
+          ∙ push-requests (s .requests) (asked _) (start .pre .0 .requests) (start .pre .1)) i;
+      responses = s .responses;
+    }
 
 pub send-update-spec : {M : Type 1} → statement M
 send-update-spec =

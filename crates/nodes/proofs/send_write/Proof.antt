@@ -1,22 +1,38 @@
+-- `send_write` meets its contract. Assumes nothing.
+use mathlib.Core.Path.{_≡_, refl, sym, ap, _∙_}
+use Prim.Native.Nat.{ℕ}
+use Rattle.rules.specs.State as S
+use Rattle.rules.specs.Ids.{electionId}
+use Rattle.rules.specs.Rules.{sendWriteRule}
+use Rattle.parts.specs.Hold.{packRequest}
+use Rattle.parts.specs.Queues.{pushRequest}
+use Rattle.parts.specs.Ordered.{push-requests}
 use borrow.Author.Needs.{needs}
 use Rattle.nodes.proofs.send_write.Statement.{statement}
 use Rattle.nodes.proofs.send_write.Tie as tie
-use Rattle.nodes.proofs.send_write.Reads as reads
-use Rattle.nodes.proofs.send_write.Lts as lts
-use Rattle.parts.proofs.RequestQueue.push.Reads as push-reads
-use Rattle.parts.proofs.election_id.Reads as election-id-reads
 
--- src/lib.rt:119:9
 election-id-requires : tie.Need-election-id-requires
 election-id-requires c κs = search needs
 
--- src/lib.rt:127:5
 push-requires : tie.Need-push-requires
 push-requires c κs = search needs
 
--- src/lib.rt:113:1
 returns : tie.Need-returns
-returns c = ?
+unfolding sendWriteRule
+returns c = 
+    let start = c .before .before .before .before .before in
+    let a = start .args in
+    let s = a .stream in
+    let asked : ℕ → S.Request = λ id. record { message = S.write; id = id; term = a .node .learned .term .0 } in
+    λ i. record {
+      opened = s .opened;
+      sent = s .sent;
+      requests =
+          (c .push .ensures
+          ∙ ap (λ (id : ℕ). pushRequest (s .requests) (packRequest (asked id))) (c .before .before .election-id .ensures)
+          ∙ push-requests (s .requests) (asked _) (start .pre .0 .requests) (start .pre .1)) i;
+      responses = s .responses;
+    }
 
 pub send-write-spec : {M : Type 1} → statement M
 send-write-spec = tie.close (tie.spec election-id-requires push-requires returns)
