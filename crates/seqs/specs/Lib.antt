@@ -3,3 +3,4 @@ pub mod Columns
 pub mod Tables
 pub mod Padded
 pub mod Queue
+pub mod Rows

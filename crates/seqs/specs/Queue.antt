@@ -28,20 +28,6 @@ module _ {B : Type 0} where
   unfoldable pub popped : B → Queue B → Queue B
   popped blank q = cond (eqb (q .len) 0) q (record { items = drop 1 (q .items) ++ (blank ∷ []); len = q .len - 1 })
 
-  -- eight places taken one by one, from the second on
-  pub eight : (l : List B) (d b : B) → length l ≡ 8
-      → getD l 1 d ∷ getD l 2 d ∷ getD l 3 d ∷ getD l 4 d ∷ getD l 5 d ∷ getD l 6 d ∷ getD l 7 d ∷ b ∷ [] ≡ drop 1 l ++ (b ∷ [])
-  eight [] d b e = absurd (omega arith)
-  eight (x0 ∷ []) d b e = absurd (omega arith)
-  eight (x0 ∷ x1 ∷ []) d b e = absurd (omega arith)
-  eight (x0 ∷ x1 ∷ x2 ∷ []) d b e = absurd (omega arith)
-  eight (x0 ∷ x1 ∷ x2 ∷ x3 ∷ []) d b e = absurd (omega arith)
-  eight (x0 ∷ x1 ∷ x2 ∷ x3 ∷ x4 ∷ []) d b e = absurd (omega arith)
-  eight (x0 ∷ x1 ∷ x2 ∷ x3 ∷ x4 ∷ x5 ∷ []) d b e = absurd (omega arith)
-  eight (x0 ∷ x1 ∷ x2 ∷ x3 ∷ x4 ∷ x5 ∷ x6 ∷ []) d b e = absurd (omega arith)
-  eight (x0 ∷ x1 ∷ x2 ∷ x3 ∷ x4 ∷ x5 ∷ x6 ∷ x7 ∷ []) d b e = refl
-  eight (x0 ∷ x1 ∷ x2 ∷ x3 ∷ x4 ∷ x5 ∷ x6 ∷ x7 ∷ x8 ∷ l) d b e = absurd (omega arith)
-
 -- ---- a queue that holds a list of the specification: `rep` writes an element, `hold` reads it
 
 -- the list at the front, and blanks behind it

@@ -1,11 +1,11 @@
 -- An array of rows, given by the row at each place. Assumes nothing.
 use mathlib.Core.Path.{_≡_, refl, sym, ap, _∙_}
 use mathlib.Core.Logic.{_≢_}
-use mathlib.Core.List.{List, [], _∷_, map}
+use mathlib.Core.List.{List, [], _∷_, _++_, map}
 use Prim.Native.Nat.{ℕ, zero, suc, _+_, _-_, _≤_, _<_}
 use native.Mathlib.Nat.{le-of-suc-le-suc}
 use native.Mathlib.Omega.{arith}
-use lib.ListN.{length, getD, set, take}
+use lib.ListN.{length, getD, set, take, drop}
 use lib.Seq.{ext-getD}
 use Rattle.seqs.specs.Columns.{column}
 
@@ -40,6 +40,11 @@ module _ {R : Type 0} where
   table-set (suc size) f f′ zero x e h = rw (e, table-ext size (λ i. f (suc i)) (λ i. f′ (suc i)) (λ i. h (suc i) (λ z. omega arith)))
   table-set (suc size) f f′ (suc j) x e h =
       rw (h 0 (λ z. omega arith), table-set size (λ i. f (suc i)) (λ i. f′ (suc i)) j x e (λ i z. h (suc i) (λ q. z (omega arith))))
+
+  -- places taken one by one from the second on, and one more behind them
+  pub moved-up : (size : ℕ) (l : List R) (d x : R) → length l ≡ suc size → table size (λ i. getD l (suc i) d) ++ (x ∷ []) ≡ drop 1 l ++ (x ∷ [])
+  moved-up size [] d x e = absurd (omega arith)
+  moved-up size (y ∷ l) d x e = ap (λ (t : List R). t ++ (x ∷ [])) (sym (table-of size (λ i. getD l i d) l d (omega arith) (λ i h. refl)))
 
 -- a column of a table is the list that its rows were made of
 pub table-column : {R B : Type 0} (g : R → B) (size : ℕ) (f : ℕ → R) (l : List B) (d : B) → length l ≤ size → ((i : ℕ) → g (f i) ≡ getD l i d) → column g (length l) (table size f) ≡ l

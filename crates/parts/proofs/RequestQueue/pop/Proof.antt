@@ -2,7 +2,7 @@
 use borrow.Author.Needs.{needs}
 use borrow.Author.Tests.{eq-eqb, ne-eqb}
 use lib.ListN.{length-map}
-use Rattle.seqs.specs.Queue.{eight}
+use Rattle.seqs.specs.Tables.{moved-up}
 use Rattle.parts.specs.Hold.{noRequest}
 use Rattle.parts.specs.Queues.{popRequest}
 use Rattle.parts.proofs.RequestQueue.pop.Statement.{statement}
@@ -45,7 +45,7 @@ returns-2 c =
     let made = c .before .before .before .before .before .before .before .before in
     let tested = made .before .before in
     let start = tested .before .before in
-    simp (ne-eqb _ _ (tested .if1 .left), made .blank .ensures, eight (start .args .self .items) noRequest noRequest (simp length-map at (start .good .0 .1 .1 .0 .1 .0 .1)))
+    simp (ne-eqb _ _ (tested .if1 .left), made .blank .ensures, moved-up 7 (start .args .self .items) noRequest noRequest (simp length-map at (start .good .0 .1 .1 .0 .1 .0 .1)))
 
 pub pop-spec : {M : Type 1} → statement M
 pop-spec =

@@ -1,0 +1,84 @@
+-- A state in range that is written into structs is in order: what the functions on rows rest on. Assumes nothing.
+use mathlib.Core.Path.{refl, ap}
+use mathlib.Core.Bool.{Bool}
+use mathlib.Core.List.{List, []}
+use Prim.Native.Nat.{ℕ, _≤_}
+use native.Mathlib.Omega.{arith}
+use lib.Dec.{T}
+use lib.ListN.{length, getD}
+use Rattle.rules.specs.Limits.{mostNodes}
+use Rattle.rules.specs.State as S
+use Rattle.rules.specs.Range.{inRange}
+use Rattle.laws.specs.InRange.{QueueFits, MastershipFits, ServiceFits, masterless, ruled, LearnedFits, unlearned, knows, CoreFits}
+use Rattle.laws.specs.RangeTest.{range-sound}
+use Rattle.laws.specs.Lists.{all-getD, queue-none}
+use Rattle.laws.specs.Ids.{fewer-backups}
+use Rattle.seqs.specs.Tables.{table-get}
+use Rattle.parts.specs.Ordered.{OrderedMastership, ordered-mastership, ordered-events, ordered-requests, ordered-responses}
+use Rattle.state.specs.Hold.{nodeRow, streamRow, packNodes, packStreams, packClaims, packCore, represent}
+use Rattle.state.specs.Order.{OrderedNodes, OrderedWire, pastNode, pastStream}
+use Rattle.bridge.specs.Held.{events-back, learned-back, says-back, wire-back}
+
+-- ---- there is a place for every backup
+
+module _ (count : ℕ) (few : count ≤ mostNodes) (m : S.Mastership) where
+  pub event-short : MastershipFits count m → length (m .backups) ≤ 7
+  event-short k = let f = fewer-backups count m k in omega arith
+
+  pub service-short : ServiceFits count m → length (m .backups) ≤ 7
+  service-short (masterless a b c) = rw b (omega arith)
+  service-short (ruled k) = event-short k
+
+  pub learned-short : LearnedFits count m → length (m .backups) ≤ 7
+  learned-short (unlearned e) = rw e (omega arith)
+  learned-short (knows k) = event-short k
+
+-- ---- the rows
+
+module _ (n : ℕ) (running : Bool) (c : S.Core) (few : n ≤ mostNodes) (k : CoreFits n running c) where
+  abbrev events : List (List S.Mastership)
+  events = c .desk .events
+
+  pub events-at : (i : ℕ) → QueueFits (MastershipFits n) (getD events i [])
+  events-at i = all-getD (QueueFits (MastershipFits n)) events i [] (queue-none (MastershipFits n)) (k .desk .events)
+
+  pub learned-at : (i : ℕ) → LearnedFits n (getD (c .learned) i S.blank)
+  learned-at i = all-getD (LearnedFits n) (c .learned) i S.blank (unlearned refl) (k .learned)
+
+  nodes-ordered : OrderedNodes n (packNodes events (c .learned) (c .says))
+  unfolding packNodes
+  nodes-ordered = record {
+    few = few;
+    rows = λ i h. rw (table-get mostNodes (nodeRow events (c .learned) (c .says)) i pastNode (omega arith)) (record {
+      events = ordered-events (getD events i []) (events-at i .short);
+      learned = ordered-mastership (getD (c .learned) i S.blank) (learned-short n few (getD (c .learned) i S.blank) (learned-at i));
+    });
+    same = λ i. packNodes (events-back n few events (c .learned) (c .says) (k .desk .size) i) (learned-back n few events (c .learned) (c .says) (k .learned-size) i) (says-back n few events (c .learned) (c .says) (k .says-size) i);
+  }
+
+  wire-ordered : OrderedWire n (packStreams (c .wire)) (packClaims (c .wire))
+  unfolding packStreams
+  wire-ordered = let w = c .wire in record {
+    few = few;
+    rows = λ i h. rw (table-get mostNodes (streamRow w) i pastStream (omega arith)) (record {
+      requests = ordered-requests (getD (w .requests) i []) (k .wire .streams i .requests-fit .short);
+      responses = ordered-responses (getD (w .responses) i []) (k .wire .streams i .responses-fit .short);
+    });
+    streams-same = ap packStreams (wire-back n running w few (k .wire));
+    claims-same = ap packClaims (wire-back n running w few (k .wire));
+  }
+
+-- ---- the state
+
+module _ (t : S.State) (h : T (inRange t)) where
+  pub ordered-nodes : OrderedNodes (t .count) (represent t .core .nodes)
+  unfolding represent packCore
+  ordered-nodes = let r = range-sound t h in nodes-ordered (t .count) (t .running) (t .core) (r .count .upper) (r .core)
+
+  pub ordered-wire : OrderedWire (t .count) (represent t .core .streams) (represent t .core .claims)
+  unfolding represent packCore
+  ordered-wire = let r = range-sound t h in wire-ordered (t .count) (t .running) (t .core) (r .count .upper) (r .core)
+
+  pub ordered-service : OrderedMastership (represent t .core .service)
+  unfolding represent packCore
+  ordered-service = let r = range-sound t h in ordered-mastership (t .core .desk .service) (service-short (t .count) (r .count .upper) (t .core .desk .service) (r .core .desk .service))

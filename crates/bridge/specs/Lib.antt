@@ -1,0 +1,6 @@
+pub mod Rows
+pub mod Sized
+pub mod Same
+pub mod Held
+pub mod InOrder
+pub mod Passes

@@ -1,0 +1,31 @@
+-- Every array of a state has its length, as its type says. Assumes nothing.
+use mathlib.Core.Path.{_≡_}
+use lib.ListN.{length}
+use Rattle.rules.specs.Limits.{mostNodes, queueLength, historyLength}
+use Rattle.laws.specs.InRange.{All}
+use Rattle.parts.specs.declared.Mastership.{Mastership}
+use Rattle.state.specs.declared.Node.{Node}
+use Rattle.state.specs.declared.Stream.{Stream}
+use Rattle.state.specs.declared.State.{State}
+
+abbrev pub SizedMastership : Mastership → Type 0
+SizedMastership m = length (m .backups) ≡ 7
+
+pub record SizedNode (r : Node) : Type 0 where
+  pub events : length (r .events .items) ≡ queueLength
+  pub items : All SizedMastership (r .events .items)
+  pub learned : SizedMastership (r .learned)
+
+pub record SizedStream (r : Stream) : Type 0 where
+  pub requests : length (r .requests .items) ≡ queueLength
+  pub responses : length (r .responses .items) ≡ queueLength
+
+pub record Sized (s : State) : Type 0 where
+  pub service : SizedMastership (s .core .service)
+  pub nodes : length (s .core .nodes) ≡ mostNodes
+  pub node-rows : All SizedNode (s .core .nodes)
+  pub streams : length (s .core .streams) ≡ mostNodes
+  pub stream-rows : All SizedStream (s .core .streams)
+  pub ids : length (s .core .claims .ids) ≡ mostNodes
+  pub terms : length (s .core .claims .terms) ≡ mostNodes
+  pub history : length (s .history .items) ≡ historyLength

@@ -1,0 +1,1 @@
+// A state in structs and the state that it holds: read specs/.

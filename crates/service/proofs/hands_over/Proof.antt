@@ -1,0 +1,22 @@
+-- `hands_over` meets its contract. Assumes nothing.
+use mathlib.Core.Path.{_≡_, refl, sym, ap, _∙_}
+use mathlib.Core.Bool.{not}
+use mathlib.Core.List.{List}
+use Prim.Native.Nat.{ℕ}
+use lib.ListN.{length, length-map}
+use borrow.Author.Tests.{eq-eqb, ne-eqb}
+use Rattle.rules.specs.Rules.{handsOver}
+use Rattle.service.specs.Masterships.{some-taken}
+use Rattle.service.proofs.hands_over.Statement.{statement}
+use Rattle.service.proofs.hands_over.Tie as tie
+
+returns : tie.Need-returns
+unfolding handsOver
+returns c = simp (eq-eqb _ _ (c .before .if1 .taken)) (some-taken (c .before .before .before .args .service .count) (c .before .before .before .args .service .backups) (simp length-map at (c .before .before .before .good .0 .1 .1 .1 .1 .0 .1 .0 .1)))
+
+returns-2 : tie.Need-returns-2
+unfolding handsOver
+returns-2 c = simp (ne-eqb _ _ (c .if1 .left))
+
+pub hands-over-spec : {M : Type 1} → statement M
+hands-over-spec = tie.close (tie.spec returns returns-2)

@@ -1,0 +1,44 @@
+-- `leave_code` meets its contract. Assumes nothing.
+use mathlib.Core.Path.{_≡_, refl, sym, ap, _∙_}
+use Rattle.state.specs.Hold.{holdDesk}
+use Rattle.service.specs.Rules.{leave-unnamed, leave-quiet, leave-spent, leave-posts}
+use borrow.Author.Needs.{needs}
+use Rattle.service.proofs.leave_code.Statement.{statement}
+use Rattle.service.proofs.leave_code.Tie as tie
+
+names-requires : tie.Need-names-requires
+names-requires c κs = search needs
+
+hands-over-requires : tie.Need-hands-over-requires
+hands-over-requires c κs = search needs
+
+returns : tie.Need-returns
+unfolding holdDesk
+returns c = let a = c .before .before .before .before .before .before .args in leave-spent (a .number) (holdDesk (a .count) (a .service) (a .nodes)) (sym (c .before .before .before .before .before .names .ensures) ∙ c .before .before .before .before .if1 .taken) (sym (c .before .before .before .hands-over .ensures) ∙ c .before .before .if2 .taken) (c .if3 .taken)
+
+post-code-requires : tie.Need-post-code-requires
+post-code-requires c κs = search needs
+
+returns-2 : tie.Need-returns-2
+unfolding holdDesk
+returns-2 c = let a = c .before .before .before .before .before .before .before .args in c .post-code .ensures ∙ leave-posts (a .number) (holdDesk (a .count) (a .service) (a .nodes)) (sym (c .before .before .before .before .before .before .names .ensures) ∙ c .before .before .before .before .before .if1 .taken) (sym (c .before .before .before .before .hands-over .ensures) ∙ c .before .before .before .if2 .taken) (c .before .if3 .left)
+
+returns-3 : tie.Need-returns-3
+unfolding holdDesk
+returns-3 c = let a = c .before .before .before .before .args in leave-quiet (a .number) (holdDesk (a .count) (a .service) (a .nodes)) (sym (c .before .before .before .names .ensures) ∙ c .before .before .if1 .taken) (sym (c .before .hands-over .ensures) ∙ c .if2 .left)
+
+returns-4 : tie.Need-returns-4
+unfolding holdDesk
+returns-4 c = let a = c .before .before .args in leave-unnamed (a .number) (holdDesk (a .count) (a .service) (a .nodes)) (sym (c .before .names .ensures) ∙ c .if1 .left)
+
+pub leave-code-spec : {M : Type 1} → statement M
+leave-code-spec =
+    tie.close
+    (tie.spec
+    names-requires
+    hands-over-requires
+    returns
+    post-code-requires
+    returns-2
+    returns-3
+    returns-4)

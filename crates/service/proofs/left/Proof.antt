@@ -1,0 +1,26 @@
+-- `left` meets its contract. Assumes nothing.
+use mathlib.Core.Path.{_≡_, refl, sym, ap, _∙_}
+use borrow.Author.Tests.{eq-eqb, ne-eqb}
+use Rattle.rules.specs.Rules.{left, handsOver}
+use Rattle.service.specs.Masterships.{left-vacant, left-over, left-backup, is-backup}
+use native.Mathlib.Omega.{arith}
+use Rattle.service.proofs.left.Statement.{statement}
+use Rattle.service.proofs.left.Tie as tie
+
+returns : tie.Need-returns
+returns c = let start = c .before .before .before .before in left-vacant (start .args .service) (start .pre .ordered) (start .args .number) (c .before .before .if1 .taken) (c .if2 .taken)
+
+promoted-requires : tie.Need-promoted-requires
+promoted-requires c κs = let start = c .before .before .before .before in record { ordered = start .pre .ordered; term = start .pre .term; some = omega arith }
+
+returns-2 : tie.Need-returns-2
+returns-2 c = let start = c .before .before .before .before .before in c .promoted .ensures ∙ left-over (start .args .service) (start .pre .ordered) (start .args .number) (c .before .before .before .if1 .taken) (c .before .if2 .left)
+
+without-requires : tie.Need-without-requires
+without-requires c κs = let start = c .before .before in record { ordered = start .pre .ordered; other = c .if1 .left; among = is-backup (start .args .number) (start .args .service) (start .pre .name) (c .if1 .left) }
+
+returns-3 : tie.Need-returns-3
+returns-3 c = let start = c .before .before .before in c .without .ensures ∙ left-backup (start .args .service) (start .pre .ordered) (start .args .number) (c .before .if1 .left)
+
+pub left-spec : {M : Type 1} → statement M
+left-spec = tie.close (tie.spec returns promoted-requires returns-2 without-requires returns-3)

@@ -1,0 +1,5 @@
+pub mod Asks
+pub mod Rules
+pub mod Removal
+pub mod Posting
+pub mod Masterships

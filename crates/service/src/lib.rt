@@ -1,0 +1,204 @@
+// The election service: kinds 1 and 2. Each has an answer code, which only reads, and its effects: the service's mastership and the post.
+ghost use mathlib.Core.Path.{_≡_};
+ghost use mathlib.Core.Bool.{true, cond};
+ghost use mathlib.Core.List.{map};
+ghost use Prim.Native.Nat.{_+_, _≤_};
+ghost use lib.Dec.{ltb};
+ghost use Rattle.rules.specs.Codes.{stepDone, queueFull};
+ghost use Rattle.rules.specs.Limits.{mostNodes};
+ghost use Rattle.rules.specs.Queues.{push, roomAll};
+ghost use Rattle.rules.specs.Part.{decide};
+ghost use Rattle.rules.specs.Rules.{joinRule, leaveRule, joined, left, handsOver};
+ghost use Rattle.seqs.specs.Columns.{column};
+ghost use Rattle.parts.specs.Hold.{holdMastership, packMastership};
+ghost use Rattle.parts.specs.Ordered.{OrderedMastership};
+ghost use Rattle.state.specs.Hold.{eventsAt, holdDesk};
+ghost use Rattle.state.specs.Order.{OrderedNodes};
+ghost use Rattle.state.specs.Reads.{answerOf};
+ghost use Rattle.state.specs.Stores.{storeEvents};
+ghost use Rattle.service.specs.Asks.{Joins, Leaves, Leaving, Promotes, hears, skipping, withoutBackup, handedOver};
+use parts::Mastership;
+use parts::Term;
+use state::Node;
+
+// Whether every node has room for one event more.
+pub fn post_room(count: u8, nodes: [Node; 8]) -> bool
+    requires { ⌜ OrderedNodes count nodes ⌝ }
+    ensures { λ r. ⌜ r ≡ roomAll (column eventsAt count nodes) ⌝ }
+{
+    let n = count as usize;
+    let mut i: usize = 0;
+    while i < n {
+        let node = nodes[i];
+        let events = node.events;
+        if events.full() {
+            return false;
+        }
+        i += 1;
+    }
+    true
+}
+
+fn hear(node: Node, m: Mastership) -> Node
+    ensures { λ r. ⌜ r ≡ hears m node ⌝ }
+{
+    let events = node.events;
+    let mut next = node;
+    next.events = events.push(m);
+    next
+}
+
+// The mastership goes last in every event queue.
+pub fn post(count: u8, nodes: [Node; 8], m: Mastership) -> [Node; 8]
+    requires { ⌜ OrderedNodes count nodes × OrderedMastership m × (roomAll (column eventsAt count nodes) ≡ true) ⌝ }
+    ensures { λ r. ⌜ r ≡ storeEvents (map (push (holdMastership m)) (column eventsAt count nodes)) count nodes ⌝ }
+{
+    let n = count as usize;
+    let mut next = nodes;
+    let mut i: usize = 0;
+    while i < n {
+        let node = next[i];
+        next[i] = hear(node, m);
+        i += 1;
+    }
+    next
+}
+
+fn post_code(count: u8, nodes: [Node; 8]) -> u8
+    requires { ⌜ OrderedNodes count nodes ⌝ }
+    ensures { λ r. ⌜ r ≡ cond (roomAll (column eventsAt count nodes)) stepDone queueFull ⌝ }
+{
+    if post_room(count, nodes) {
+        return parts::DONE;
+    }
+    parts::QUEUE_FULL
+}
+
+// 1 Join: the answer.
+pub fn join_code(count: u8, number: u8, service: Mastership, nodes: [Node; 8]) -> u8
+    requires { ⌜ OrderedNodes count nodes ⌝ }
+    ensures { λ r. ⌜ r ≡ answerOf (decide (joinRule number) (holdDesk count service nodes)) ⌝ }
+{
+    if service.master == 0 {
+        if parts::TOP_TERM <= service.term.0 {
+            return parts::TERMS_SPENT;
+        }
+        return post_code(count, nodes);
+    }
+    if service.names(number) {
+        return parts::NOT_ALLOWED;
+    }
+    post_code(count, nodes)
+}
+
+// The mastership after the node joined it.
+pub fn joined(service: Mastership, number: u8) -> Mastership
+    requires { ⌜ Joins service ⌝ }
+    ensures { λ r. ⌜ r ≡ packMastership (joined number (holdMastership service)) ⌝ }
+{
+    if service.master == 0 {
+        return Mastership {
+            term: Term(service.term.0 + 1),
+            master: number,
+            backups: [0u8; 7],
+            count: 0,
+        };
+    }
+    let at = service.count as usize;
+    let mut next = service;
+    next.backups[at] = number;
+    next.count = service.count + 1;
+    next
+}
+
+// Whether the first backup takes over when the node leaves.
+pub fn hands_over(service: Mastership, number: u8) -> bool
+    ensures { λ r. ⌜ r ≡ handsOver number (holdMastership service) ⌝ }
+{
+    if service.master == number {
+        return 0 < service.count;
+    }
+    false
+}
+
+// 2 Leave: the answer.
+pub fn leave_code(count: u8, number: u8, service: Mastership, nodes: [Node; 8]) -> u8
+    requires { ⌜ OrderedNodes count nodes ⌝ }
+    ensures { λ r. ⌜ r ≡ answerOf (decide (leaveRule number) (holdDesk count service nodes)) ⌝ }
+{
+    if service.names(number) {
+        if hands_over(service, number) {
+            if parts::TOP_TERM <= service.term.0 {
+                return parts::TERMS_SPENT;
+            }
+            return post_code(count, nodes);
+        }
+        return parts::DONE;
+    }
+    parts::NOT_ALLOWED
+}
+
+// The place that stands at `i` once the one at `gone` is left out.
+fn skip(i: usize, gone: usize) -> usize
+    requires { ⌜ i ≤ mostNodes ⌝ }
+    ensures { λ r. ⌜ r ≡ skipping i gone ⌝ }
+{
+    if i < gone {
+        return i;
+    }
+    i + 1
+}
+
+// The mastership without a backup.
+fn without(m: Mastership, number: u8) -> Mastership
+    requires { ⌜ Leaves m number ⌝ }
+    ensures { λ r. ⌜ r ≡ packMastership (withoutBackup number (holdMastership m)) ⌝ }
+{
+    let place = m.place_of(number);
+    let gone = place as usize - 1;
+    let kept = m.count as usize - 1;
+    let mut backups = [0u8; 7];
+    let mut i: usize = 0;
+    while i < kept {
+        let from = skip(i, gone);
+        backups[i] = m.backups[from];
+        i += 1;
+    }
+    let term = m.term;
+    Mastership {
+        term: term,
+        master: m.master,
+        backups: backups,
+        count: m.count - 1,
+    }
+}
+
+// The first backup becomes the master of a new term.
+fn promoted(m: Mastership) -> Mastership
+    requires { ⌜ Promotes m ⌝ }
+    ensures { λ r. ⌜ r ≡ packMastership (handedOver (holdMastership m)) ⌝ }
+{
+    let at = m.backups;
+    Mastership {
+        term: Term(m.term.0 + 1),
+        master: at[0],
+        backups: [at[1], at[2], at[3], at[4], at[5], at[6], 0],
+        count: m.count - 1,
+    }
+}
+
+// The mastership after the node left it.
+pub fn left(service: Mastership, number: u8) -> Mastership
+    requires { ⌜ Leaving service number ⌝ }
+    ensures { λ r. ⌜ r ≡ packMastership (left number (holdMastership service)) ⌝ }
+{
+    if service.master == number {
+        if service.count == 0 {
+            let mut next = service;
+            next.master = 0;
+            return next;
+        }
+        return promoted(service);
+    }
+    without(service, number)
+}
