@@ -59,3 +59,18 @@ pub struct Wire {
     pub streams: [Stream; 8],
     pub claims: Claims,
 }
+
+// The state without its history: what a step carries about.
+pub struct Body {
+    pub count: u8,
+    pub running: bool,
+    pub core: Core,
+}
+
+// What a step leaves: its answer, the state, and the accepted write's term, where there is one.
+pub struct Moved {
+    pub code: u8,
+    pub body: Body,
+    pub accepted: bool,
+    pub term: Term,
+}

@@ -1,0 +1,73 @@
+-- What the code reads of node n's rows is what the rule's class reads of the state. Assumes nothing.
+use mathlib.Core.Path.{_≡_, refl, sym, ap, _∙_}
+use mathlib.Core.Bool.{Bool}
+use mathlib.Core.List.{List}
+use Prim.Native.Nat.{ℕ, _-_, _<_}
+use lib.ListN.{length, getD}
+use Rattle.rules.specs.State as S
+use Rattle.rules.specs.Parts.{learnPart, sendPart, receivePart, linkPart, servePart, onDevice}
+use Rattle.seqs.specs.Columns.{column, column-at}
+use Rattle.state.specs.Hold.{eventsAt, learnedAt, saysAt, openAt, sentAt, requestsAt, responsesAt, holdCore, holdDesk, holdWire}
+use Rattle.state.specs.Order.{pastNode, pastStream}
+use Rattle.state.specs.Reads.{inboxOf, senderOf, receiverOf, linkedOf, servedOf}
+use Rattle.state.specs.declared.Node.{Node}
+use Rattle.state.specs.declared.Stream.{Stream}
+use Rattle.state.specs.declared.Body.{Body}
+use Rattle.moves.specs.Bodies.{stateOf}
+
+module _ (b : Body) (n : ℕ) where
+  abbrev pub nodeOf : Node
+  nodeOf = getD (b .core .nodes) (n - 1) pastNode
+
+  abbrev pub streamOf : Stream
+  streamOf = getD (b .core .streams) (n - 1) pastStream
+
+module _ (b : Body) (n : ℕ) (lt : n - 1 < b .count) (history : List S.Write) where
+  in-nodes : {B : Type 0} (f : Node → B) → f (nodeOf b n) ≡ getD (column f (b .count) (b .core .nodes)) (n - 1) (f pastNode)
+  in-nodes f = sym (column-at f (b .count) (n - 1) (b .core .nodes) pastNode lt)
+
+  in-streams : {B : Type 0} (f : Stream → B) → f (streamOf b n) ≡ getD (column f (b .count) (b .core .streams)) (n - 1) (f pastStream)
+  in-streams f = sym (column-at f (b .count) (n - 1) (b .core .streams) pastStream lt)
+
+  pub inbox-read : inboxOf (nodeOf b n) ≡ learnPart n .get (stateOf b history)
+  unfolding holdCore holdDesk
+  inbox-read = λ j. record { events = in-nodes eventsAt j; learned = in-nodes learnedAt j }
+
+  pub sender-read : senderOf (b .count) (nodeOf b n) (streamOf b n) ≡ sendPart n .get (stateOf b history)
+  unfolding holdCore holdWire
+  sender-read = λ j. record {
+    count = b .count;
+    learned = in-nodes learnedAt j;
+    says = in-nodes saysAt j;
+    isOpen = in-streams openAt j;
+    sent = in-streams sentAt j;
+    requests = in-streams requestsAt j;
+  }
+
+  pub receiver-read : receiverOf (b .count) (nodeOf b n) (streamOf b n) ≡ receivePart n .get (stateOf b history)
+  unfolding holdCore holdWire
+  receiver-read = λ j. record {
+    count = b .count;
+    learned = in-nodes learnedAt j;
+    says = in-nodes saysAt j;
+    isOpen = in-streams openAt j;
+    sent = in-streams sentAt j;
+    responses = in-streams responsesAt j;
+  }
+
+  pub linked-read : linkedOf (b .running) (streamOf b n) ≡ onDevice (linkPart n) .get (stateOf b history)
+  unfolding holdCore holdWire
+  linked-read = λ j. record { running = b .running; isOpen = in-streams openAt j }
+
+  pub served-read : servedOf (b .count) n (b .running) (streamOf b n) (b .core .claims) (length history) ≡ onDevice (servePart n) .get (stateOf b history)
+  unfolding holdCore holdWire
+  served-read = let s = onDevice (servePart n) .get (stateOf b history) in λ j. record {
+    running = b .running;
+    isOpen = in-streams openAt j;
+    requests = in-streams requestsAt j;
+    responses = in-streams responsesAt j;
+    ids = s .ids;
+    term = s .term;
+    last = s .last;
+    writes = length history;
+  }

@@ -1,0 +1,4 @@
+pub mod Bodies
+pub mod Gets
+pub mod Puts
+pub mod Acts
