@@ -1,4 +1,6 @@
 pub mod Bodies
+pub mod Sets
 pub mod Gets
 pub mod Puts
+pub mod Stored
 pub mod Acts

@@ -8,15 +8,24 @@ use lib.ListN.{length, getD, set}
 use lib.Seq.{getD-set-same, getD-set-other}
 use Rattle.rules.specs.Limits.{mostNodes}
 use Rattle.rules.specs.State as S
-use Rattle.rules.specs.Parts.{Inbox, Sent, Received, Telling, Serving, tellPart}
-use Rattle.laws.specs.InRange.{WireFits}
-use Rattle.seqs.specs.Tables.{table-set}
-use Rattle.parts.specs.Hold.{packMastership, packEvents, packRequests, packResponses}
-use Rattle.state.specs.Hold.{packNode, packStream, nodeRow, streamRow, packNodes, packStreams, packClaims, holdWire, learnedAt, saysAt}
-use Rattle.state.specs.Stores.{storeEvents, storeInbox, storeSent, storeSays, storeReceived, storeOpen, storeTelling, storeServing, packWire}
+use Rattle.rules.specs.Parts.{Inbox, Sent, Received, Serving}
+use Rattle.seqs.specs.Tables.{table-get, table-set}
+use Rattle.state.specs.Hold.{packNode, packStream, nodeRow, streamRow, packNodes, packStreams}
+use Rattle.state.specs.Stores.{storeInbox, storeSent, storeSays, storeReceived, storeOpen, storeServing}
+use Rattle.state.specs.Order.{pastNode, pastStream}
 use Rattle.state.specs.declared.Node.{Node}
 use Rattle.state.specs.declared.Stream.{Stream}
-use Rattle.bridge.specs.Held.{learned-back, says-back, wire-back}
+
+-- ---- a row of the arrays
+
+pub node-at : (events : List (List S.Mastership)) (learned : List S.Mastership) (says : List Bool) (i : ℕ) → i < mostNodes
+    → getD (packNodes events learned says) i pastNode ≡ nodeRow events learned says i
+unfolding packNodes
+node-at events learned says i h = table-get mostNodes (nodeRow events learned says) i pastNode h
+
+pub stream-at : (w : S.Wire) (i : ℕ) → i < mostNodes → getD (packStreams w) i pastStream ≡ streamRow w i
+unfolding packStreams
+stream-at w i h = table-get mostNodes (streamRow w) i pastStream h
 
 -- ---- one row of the nodes
 
@@ -97,15 +106,3 @@ module _ (w : S.Wire) (j : ℕ) where
   serving-stored v h k = table-set mostNodes (streamRow w) _ j (storeServing v (streamRow w j))
       (sym (ap₂ (packStream (getD (w .opens) j false) (getD (w .sent) j 0)) (getD-set-same (w .requests) j (v .requests) [] h) (getD-set-same (w .responses) j (v .responses) [] k)))
       (λ i z. ap₂ (packStream (getD (w .opens) i false) (getD (w .sent) i 0)) (getD-set-other (w .requests) j i (v .requests) [] z) (getD-set-other (w .responses) j i (v .responses) [] z))
-
--- ---- all rows
-
-pub events-stored : (count : ℕ) → count ≤ mostNodes → (events events′ : List (List S.Mastership)) (learned : List S.Mastership) (says : List Bool) → length learned ≡ count → length says ≡ count
-    → storeEvents events′ count (packNodes events learned says) ≡ packNodes events′ learned says
-events-stored count few events events′ learned says h k = ap₂ (packNodes events′) (learned-back count few events learned says h) (says-back count few events learned says k)
-
-pub telling-stored : (count : ℕ) (running : Bool) (w : S.Wire) → count ≤ mostNodes → WireFits count running w → (n : ℕ) (v : Telling) (history : List S.Write)
-    → storeTelling n v count (packStreams w) (packClaims w) ≡ packWire (tellPart n .put v (record { running = running; history = history; wire = w }) .wire)
-unfolding storeTelling
-telling-stored count running w few k n v history =
-    ap (λ (u : S.Wire). packWire (tellPart n .put v (record { running = true; history = []; wire = u }) .wire)) (wire-back count running w few k)

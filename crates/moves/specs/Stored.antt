@@ -1,0 +1,202 @@
+-- A body in range with what the code stores is that of the state with what the rule's class writes. Assumes nothing.
+use mathlib.Core.Path.{_≡_, refl, sym, ap, ap₂, subst, _∙_}
+use mathlib.Core.Bool.{Bool}
+use mathlib.Core.List.{List, []}
+use Prim.Native.Nat.{ℕ, _-_, _≤_, _<_}
+use native.Mathlib.Omega.{arith}
+use lib.ListN.{length, getD, set}
+use Rattle.rules.specs.Limits.{mostNodes}
+use Rattle.rules.specs.State as S
+use Rattle.rules.specs.Parts.{Inbox, Sent, Received, Telling, Serving, Power, servicePart, learnPart, sendPart, receivePart, linkPart, tellPart, servePart, powerPart, onDevice}
+use Rattle.laws.specs.InRange.{InRange, CoreFits, WireFits}
+use Rattle.laws.specs.RangeTest.{range-sound}
+use Rattle.seqs.specs.Columns.{column}
+use Rattle.parts.specs.Hold.{packMastership}
+use Rattle.parts.specs.Ordered.{OrderedMastership}
+use Rattle.state.specs.Hold.{eventsAt, learnedAt, saysAt, nodeRow, streamRow, packNodes, packStreams, packClaims, packCore, holdCore, holdDesk, holdWire, represent}
+use Rattle.state.specs.Order.{OrderedNodes, OrderedWire, OrderedNode, OrderedStream, pastNode, pastStream}
+use Rattle.state.specs.Stores.{storeEvents, storeInbox, storeSent, storeSays, storeReceived, storeOpen, storeTelling, storeServing, packWire}
+use Rattle.state.specs.declared.Node.{Node}
+use Rattle.state.specs.declared.Stream.{Stream}
+use Rattle.state.specs.declared.Core.{Core}
+use Rattle.state.specs.declared.Body.{Body}
+use Rattle.bridge.specs.InOrder.{ordered-nodes, ordered-wire, ordered-service}
+use Rattle.moves.specs.Bodies.{stateOf, bodyOf, Ready}
+use Rattle.moves.specs.Gets.{nodeOf, streamOf}
+use Rattle.moves.specs.Sets.{withDesk, withNode, withWire, withStream, withLast}
+use Rattle.moves.specs.Puts.{node-at, stream-at, inbox-stored, says-stored, sent-stored, received-stored, open-stored, serving-stored}
+
+module _ (b : Body) (ready : Ready b) where
+  abbrev pub heldCore : S.Core
+  heldCore = holdCore (b .count) (b .core)
+
+  pub fits-core : CoreFits (b .count) (b .running) heldCore
+  fits-core = range-sound (stateOf b []) (ready .fits) .core
+
+  pub few : b .count ≤ mostNodes
+  few = range-sound (stateOf b []) (ready .fits) .count .upper
+
+  pub in-order-nodes : OrderedNodes (b .count) (b .core .nodes)
+  unfolding represent
+  in-order-nodes = rw (ap (λ (x : Body). x .core .nodes) (ready .same)) at (ordered-nodes (stateOf b []) (ready .fits))
+
+  pub in-order-wire : OrderedWire (b .count) (b .core .streams) (b .core .claims)
+  unfolding represent
+  in-order-wire = subst (λ (x : Body). OrderedWire (b .count) (x .core .streams) (x .core .claims)) (ready .same) (ordered-wire (stateOf b []) (ready .fits))
+
+  pub in-order-service : OrderedMastership (b .core .service)
+  unfolding represent
+  in-order-service = subst (λ (x : Body). OrderedMastership (x .core .service)) (ready .same) (ordered-service (stateOf b []) (ready .fits))
+
+  module _ (history : List S.Write) where
+    -- ---- whole columns
+
+    pub desk-stored : (d : S.Desk) → withDesk (packMastership (d .service)) (storeEvents (d .events) (b .count) (b .core .nodes)) b ≡ bodyOf (servicePart .put d (stateOf b history))
+    unfolding packCore holdCore
+    desk-stored d = λ i. record {
+      count = b .count;
+      running = b .running;
+      core = record {
+        service = packMastership (d .service);
+        nodes = packNodes (d .events) (column learnedAt (b .count) (b .core .nodes)) (column saysAt (b .count) (b .core .nodes));
+        streams = sym (ready .same) i .core .streams;
+        claims = sym (ready .same) i .core .claims;
+      };
+    }
+
+    pub telling-stored : (n : ℕ) (v : Telling) → let w = storeTelling n v (b .count) (b .core .streams) (b .core .claims) in
+        withWire (b .running) (w .streams) (w .claims) b ≡ bodyOf (onDevice (tellPart n) .put v (stateOf b history))
+    unfolding packCore holdCore storeTelling
+    telling-stored n v = λ i. record {
+      count = b .count;
+      running = b .running;
+      core = record {
+        service = sym (ready .same) i .core .service;
+        nodes = sym (ready .same) i .core .nodes;
+        streams = storeTelling n v (b .count) (b .core .streams) (b .core .claims) .streams;
+        claims = storeTelling n v (b .count) (b .core .streams) (b .core .claims) .claims;
+      };
+    }
+
+    pub power-stored : (v : Power) → withWire (v .running) (packStreams (v .wire)) (packClaims (v .wire)) b ≡ bodyOf (onDevice powerPart .put v (stateOf b history))
+    unfolding packCore holdCore
+    power-stored v = λ i. record {
+      count = b .count;
+      running = v .running;
+      core = record {
+        service = sym (ready .same) i .core .service;
+        nodes = sym (ready .same) i .core .nodes;
+        streams = packStreams (v .wire);
+        claims = packClaims (v .wire);
+      };
+    }
+
+    -- ---- rows
+
+    module _ (n : ℕ) (lt : n - 1 < b .count) where
+      abbrev j : ℕ
+      j = n - 1
+
+      abbrev w : S.Wire
+      w = holdWire (b .count) (b .core .streams) (b .core .claims)
+
+      abbrev events : List (List S.Mastership)
+      events = column eventsAt (b .count) (b .core .nodes)
+
+      abbrev learned : List S.Mastership
+      learned = column learnedAt (b .count) (b .core .nodes)
+
+      abbrev says : List Bool
+      says = column saysAt (b .count) (b .core .nodes)
+
+      place : j < mostNodes
+      place = let f = few in omega arith
+
+      nodes-same : packNodes events learned says ≡ b .core .nodes
+      nodes-same = in-order-nodes .same
+
+      streams-same : packStreams w ≡ b .core .streams
+      streams-same = in-order-wire .streams-same
+
+      node-is : nodeOf b n ≡ nodeRow events learned says j
+      node-is = ap (λ (l : List Node). getD l j pastNode) (sym nodes-same) ∙ node-at events learned says j place
+
+      stream-is : streamOf b n ≡ streamRow w j
+      stream-is = ap (λ (l : List Stream). getD l j pastStream) (sym streams-same) ∙ stream-at w j place
+
+      -- a row of an array, by the row of the table that it is
+      in-nodes : (f : Node → Node) (l : List Node) → set (packNodes events learned says) j (f (nodeRow events learned says j)) ≡ l → set (b .core .nodes) j (f (nodeOf b n)) ≡ l
+      in-nodes f l e = ap₂ (λ (k : List Node) (r : Node). set k j (f r)) (sym nodes-same) node-is ∙ e
+
+      in-streams : (f : Stream → Stream) (l : List Stream) → set (packStreams w) j (f (streamRow w j)) ≡ l → set (b .core .streams) j (f (streamOf b n)) ≡ l
+      in-streams f l e = ap₂ (λ (k : List Stream) (r : Stream). set k j (f r)) (sym streams-same) stream-is ∙ e
+
+      wide : {A : Type 0} (l : List A) → length l ≡ b .count → j < length l
+      wide l e = let k : length l ≡ b .count = e in omega arith
+
+      pub inbox-stored-at : (v : Inbox) → withNode n (storeInbox v (nodeOf b n)) b ≡ bodyOf (learnPart n .put v (stateOf b history))
+      unfolding packCore holdCore holdDesk
+      inbox-stored-at v = λ i. record {
+        count = b .count;
+        running = b .running;
+        core = record {
+          service = sym (ready .same) i .core .service;
+          nodes = in-nodes (storeInbox v) _ (inbox-stored events learned says j v (wide events (fits-core .desk .size)) (wide learned (fits-core .learned-size))) i;
+          streams = sym (ready .same) i .core .streams;
+          claims = sym (ready .same) i .core .claims;
+        };
+      }
+
+      pub sent-stored-at : (v : Sent) → withStream n (storeSent v (streamOf b n)) b ≡ bodyOf (sendPart n .put v (stateOf b history))
+      unfolding packCore holdCore holdDesk packClaims
+      sent-stored-at v = λ i. record {
+        count = b .count;
+        running = b .running;
+        core = record {
+          service = sym (ready .same) i .core .service;
+          nodes = sym (ready .same) i .core .nodes;
+          streams = in-streams (storeSent v) _ (sent-stored w j v (wide (w .sent) (fits-core .wire .sent-size)) (wide (w .requests) (fits-core .wire .requests-size))) i;
+          claims = sym (ready .same) i .core .claims;
+        };
+      }
+
+      pub received-stored-at : (v : Received)
+          → withNode n (storeSays v (nodeOf b n)) (withStream n (storeReceived v (streamOf b n)) b) ≡ bodyOf (receivePart n .put v (stateOf b history))
+      unfolding packCore holdCore holdDesk packClaims
+      received-stored-at v = λ i. record {
+        count = b .count;
+        running = b .running;
+        core = record {
+          service = sym (ready .same) i .core .service;
+          nodes = in-nodes (storeSays v) _ (says-stored events learned says j v (wide says (fits-core .says-size))) i;
+          streams = in-streams (storeReceived v) _ (received-stored w j v (wide (w .responses) (fits-core .wire .responses-size))) i;
+          claims = sym (ready .same) i .core .claims;
+        };
+      }
+
+      pub open-stored-at : (v : Bool) → withStream n (storeOpen v (streamOf b n)) b ≡ bodyOf (onDevice (linkPart n) .put v (stateOf b history))
+      unfolding packCore holdCore holdDesk packClaims
+      open-stored-at v = λ i. record {
+        count = b .count;
+        running = b .running;
+        core = record {
+          service = sym (ready .same) i .core .service;
+          nodes = sym (ready .same) i .core .nodes;
+          streams = in-streams (storeOpen v) _ (open-stored w j v (wide (w .opens) (fits-core .wire .opens-size))) i;
+          claims = sym (ready .same) i .core .claims;
+        };
+      }
+
+      pub serving-stored-at : (v : Serving)
+          → withLast (record { 0 = v .last }) (withStream n (storeServing v (streamOf b n)) b) ≡ bodyOf (onDevice (servePart n) .put v (stateOf b history))
+      unfolding packCore holdCore holdDesk packClaims
+      serving-stored-at v = λ i. record {
+        count = b .count;
+        running = b .running;
+        core = record {
+          service = sym (ready .same) i .core .service;
+          nodes = sym (ready .same) i .core .nodes;
+          streams = in-streams (storeServing v) _ (serving-stored w j v (wide (w .requests) (fits-core .wire .requests-size)) (wide (w .responses) (fits-core .wire .responses-size))) i;
+          claims = record { ids = sym (ready .same) i .core .claims .ids; terms = sym (ready .same) i .core .claims .terms; last = record { 0 = v .last } };
+        };
+      }
