@@ -6,14 +6,10 @@ use mathlib.Core.List.{List, [], _∷_, _++_, append-nil}
 use Prim.Native.Nat.{ℕ}
 use native.Mathlib.Omega.{arith}
 use lib.Dec.{T}
-use Rattle.rules.specs.Codes.{stepDone}
+use Rattle.rules.specs.Codes.{stepDone, notAllowed}
 use Rattle.rules.specs.State as S
-use Rattle.rules.specs.Part.{Out, refuse, done, Part, settle, Rule, decide}
-use Rattle.rules.specs.Parts.{part}
-use Rattle.rules.specs.Rules.{Kind, classOf, rule}
-use Rattle.rules.specs.Step.{act}
-use Rattle.laws.specs.Answered.{sees, after}
-use Rattle.laws.specs.Decide.{Passes, Decided, barred, no-term, no-history, no-queue, passed, decided}
+use Rattle.rules.specs.Part.{Out, refuse, done, Part, settle, via, Rule, decide}
+use Rattle.laws.specs.Decide.{Passes, Decided, barred, no-term, no-history, no-queue, passed, decided, decides}
 use Rattle.state.specs.Reads.{answerOf}
 use Rattle.state.specs.declared.Body.{Body}
 use Rattle.state.specs.declared.Moved.{Moved}
@@ -62,23 +58,33 @@ module _ {St R W : Type 0} (p : Part St R W) (s : St) (r : Rule R W) where
 abbrev pub plain : ℕ → Body → Moved
 plain code b = record { code = code; body = b; accepted = false; term = record { 0 = 0 } }
 
-module _ (k : Kind) (n : ℕ) (b : Body) (ready : Ready b) (history : List S.Write) (code : ℕ)
-    (answer : code ≡ answerOf (decide (rule k n) (sees k n (stateOf b history)))) where
-  pub refused : code ≢ stepDone → Leaves n history (act k n (stateOf b history)) (plain code b)
-  refused h =
-      let e = stayed (part (classOf k) n) (stateOf b history) (rule k n) (λ z. h (answer ∙ z)) in
+module _ {R W : Type 0} (p : Part S.State R W) (r : Rule R W) (n : ℕ) (b : Body) (ready : Ready b) (history : List S.Write) where
+  abbrev s : S.State
+  s = stateOf b history
+
+  -- The code's answer, not 0, is the rule's, of what the part reads.
+  pub refused : (v : R) → v ≡ p .get (stateOf b history) → (code : ℕ) → code ≡ answerOf (decide r v) → code ≢ stepDone → Leaves n history (via p (decide r) (stateOf b history)) (plain code b)
+  refused v e code c h =
+      let answer : code ≡ answerOf (decide r (p .get s)) = c ∙ ap (λ (x : R). answerOf (decide r x)) e in
+      let same = stayed p s r (λ z. h (answer ∙ z)) in
       record {
-        code = answer ∙ sym (answered (part (classOf k) n) (stateOf b history) (rule k n));
-        body = sym (ready .same) ∙ sym (ap bodyOf e);
-        history-grows = ap (λ (s : S.State). s .history) e ∙ sym (append-nil history);
+        code = answer ∙ sym (answered p s r);
+        body = sym (ready .same) ∙ sym (ap bodyOf same);
+        history-grows = ap (λ (t : S.State). t .history) same ∙ sym (append-nil history);
       }
 
-  pub done-with : code ≡ stepDone → (r : Moved) → r .code ≡ code → r .body ≡ bodyOf (after k n (stateOf b history)) → after k n (stateOf b history) .history ≡ history ++ acceptedIn n r
-      → Leaves n history (act k n (stateOf b history)) r
-  done-with z r c e g =
-      let s = put-in (part (classOf k) n) (stateOf b history) (rule k n) (sym answer ∙ z) in
+  -- The rule does not allow the step.
+  pub barred-at : (v : R) → v ≡ p .get (stateOf b history) → r .allowed v ≡ false → Leaves n history (via p (decide r) (stateOf b history)) (plain notAllowed b)
+  barred-at v e h = refused v e notAllowed (sym (ap answerOf (decides r v (barred (rw h tt))))) (λ z. omega arith)
+
+  -- Every test of the rule holds, and what the code left is the state with the rule's effect.
+  pub done-at : (v : R) → v ≡ p .get (stateOf b history) → Passes r v → (m : Moved) → m .code ≡ stepDone → m .body ≡ bodyOf (p .put (r .effect v) (stateOf b history))
+      → p .put (r .effect v) (stateOf b history) .history ≡ history ++ acceptedIn n m → Leaves n history (via p (decide r) (stateOf b history)) m
+  done-at v e k m c f g =
+      let answer : answerOf (decide r (p .get s)) ≡ stepDone = ap (λ (x : R). answerOf (decide r x)) (sym e) ∙ ap answerOf (decides r v (passed k)) in
+      let put : via p (decide r) s .state ≡ p .put (r .effect v) s = put-in p s r answer ∙ ap (λ (x : R). p .put (r .effect x) s) (sym e) in
       record {
-        code = c ∙ answer ∙ sym (answered (part (classOf k) n) (stateOf b history) (rule k n));
-        body = e ∙ sym (ap bodyOf s);
-        history-grows = ap (λ (t : S.State). t .history) s ∙ g;
+        code = c ∙ sym answer ∙ sym (answered p s r);
+        body = f ∙ sym (ap bodyOf put);
+        history-grows = ap (λ (t : S.State). t .history) put ∙ g;
       }

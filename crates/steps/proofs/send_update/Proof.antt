@@ -1,0 +1,77 @@
+-- `send_update` meets its contract. Assumes nothing.
+use mathlib.Core.Path.{_≡_, refl, sym, ap, _∙_}
+use Rattle.rules.specs.Codes.{stepDone}
+use Rattle.moves.specs.Acts.{plain}
+use Rattle.rules.specs.Rules.{sendUpdateRule}
+use Rattle.steps.specs.Nodes.{stream-ordered, sends, send-answer, send-no, send-yes}
+use borrow.Author.Needs.{needs}
+use Rattle.steps.proofs.send_update.Statement.{statement}
+use Rattle.steps.proofs.send_update.Tie as tie
+
+sub-at : tie.Need-sub-at
+sub-at c = search needs
+
+cast-at : tie.Need-cast-at
+cast-at c = search needs
+
+mul-node : tie.Need-mul-node
+mul-node c = search needs
+
+element-copy-out-node : tie.Need-element-copy-out-node
+element-copy-out-node c = search needs
+
+mul-stream : tie.Need-mul-stream
+mul-stream c = search needs
+
+element-copy-out-stream : tie.Need-element-copy-out-stream
+element-copy-out-stream c = search needs
+
+may-send-update-requires : tie.Need-may-send-update-requires
+may-send-update-requires c κs = search needs
+
+send-code-requires : tie.Need-send-code-requires
+send-code-requires c κs = search needs
+
+send-update-requires : tie.Need-send-update-requires
+send-update-requires c κs = (stream-ordered (c .before .before .before .before .before .before .args .body) (c .before .before .before .before .before .before .args .number) (c .before .before .before .before .before .before .pre), sends (c .before .before .may-send-update .result) _ (sym (c .before .send-code .ensures) ∙ c .if1 .taken))
+
+with-stream-requires : tie.Need-with-stream-requires
+with-stream-requires c κs = search needs
+
+plain-requires : tie.Need-plain-requires
+plain-requires c κs = search needs
+
+returns : tie.Need-returns
+unfolding sendUpdateRule
+returns c = λ history.
+    let answer = send-answer (c .before .before .before .before .before .before .before .before .before .args .body) (c .before .before .before .before .before .before .before .before .before .args .number) (c .before .before .before .before .before .before .before .before .before .pre) (sendUpdateRule (c .before .before .before .before .before .before .before .before .before .args .number)) refl refl refl (c .before .before .before .before .before .may-send-update .result) (c .before .before .before .before .before .may-send-update .ensures) (c .before .before .before .before .send-code .result) (c .before .before .before .before .send-code .ensures) in
+    send-yes (c .before .before .before .before .before .before .before .before .before .args .body) (c .before .before .before .before .before .before .before .before .before .args .number) (c .before .before .before .before .before .before .before .before .before .pre) history (sendUpdateRule (c .before .before .before .before .before .before .before .before .before .args .number)) (sym answer ∙ c .before .before .before .if1 .taken) (c .before .before .send-update .result) (c .before .before .send-update .ensures)
+    (c .plain .result) (c .plain .ensures ∙ ap (plain stepDone) (c .before .with-stream .ensures))
+
+plain-requires-2 : tie.Need-plain-requires-2
+plain-requires-2 c κs = search needs
+
+returns-2 : tie.Need-returns-2
+unfolding sendUpdateRule
+returns-2 c = λ history.
+    let answer = send-answer (c .before .before .before .before .before .before .before .args .body) (c .before .before .before .before .before .before .before .args .number) (c .before .before .before .before .before .before .before .pre) (sendUpdateRule (c .before .before .before .before .before .before .before .args .number)) refl refl refl (c .before .before .before .may-send-update .result) (c .before .before .before .may-send-update .ensures) (c .before .before .send-code .result) (c .before .before .send-code .ensures) in
+    send-no (c .before .before .before .before .before .before .before .args .body) (c .before .before .before .before .before .before .before .args .number) (c .before .before .before .before .before .before .before .pre) history (sendUpdateRule (c .before .before .before .before .before .before .before .args .number)) (c .before .before .send-code .result) answer (c .before .if1 .left) (c .plain2 .result) (c .plain2 .ensures)
+
+pub send-update-spec : {M : Type 1} → statement M
+send-update-spec =
+    tie.close
+    (tie.spec
+    sub-at
+    cast-at
+    mul-node
+    element-copy-out-node
+    mul-stream
+    element-copy-out-stream
+    may-send-update-requires
+    send-code-requires
+    send-update-requires
+    with-stream-requires
+    plain-requires
+    returns
+    plain-requires-2
+    returns-2)

@@ -1,0 +1,1 @@
+// Laws of the word of the open streams: see specs/.
