@@ -1,3 +1,4 @@
 pub mod Asks
 pub mod Nodes
 pub mod Service
+pub mod Switch

@@ -1,0 +1,1 @@
+// The small situations of the rules, computed: read specs/, Table last.

@@ -1,0 +1,142 @@
+-- Closing a stream: what the code reads is what the rule reads, and its stores are what the rule writes. Assumes nothing.
+use mathlib.Core.Path.{_≡_, refl, sym, ap, ap₂, _∙_}
+use mathlib.Core.Logic.{_≢_}
+use mathlib.Core.Bool.{Bool, true, false, not, cond, _||_}
+use mathlib.Core.List.{List, []}
+use Prim.Native.Nat.{ℕ, _-_, _≤_, _<_}
+use native.Mathlib.Decide.{ℕ-discrete}
+use native.Mathlib.Omega.{arith}
+use lib.ListN.{length, getD, set, length-set}
+use lib.Seq.{getD-set-same, getD-set-other}
+use Rattle.rules.specs.Limits.{mostNodes}
+use Rattle.rules.specs.Codes.{stepDone}
+use Rattle.rules.specs.State as S
+use Rattle.rules.specs.Part.{Rule, decide}
+use Rattle.rules.specs.Parts.{Told, Telling}
+use Rattle.rules.specs.Election.{roomOpen, tellAll}
+use Rattle.rules.specs.Rules.{changes, idsLeft, opensLeft, responsesLeft, closeRoom, closed, closeRule}
+use Rattle.seqs.specs.Columns.{column, column-at, column-set}
+use Rattle.seqs.specs.Tables.{table}
+use Rattle.parts.specs.Ordered.{ordered-requests, ordered-responses}
+use Rattle.parts.specs.declared.ElectionId.{ElectionId}
+use Rattle.state.specs.Hold.{holdWire, packStreams, packClaims, openAt, responsesAt, idAt}
+use Rattle.state.specs.Order.{OrderedWire, OrderedStream, pastStream}
+use Rattle.state.specs.Reads.{answerOf, toldOf}
+use Rattle.state.specs.Stores.{packWire, storeTelling}
+use Rattle.state.specs.declared.Stream.{Stream}
+use Rattle.state.specs.declared.Claims.{Claims}
+use Rattle.state.specs.declared.Wire.{Wire}
+use Rattle.switch.specs.Asks.{OrderedRows, AtWire}
+use Rattle.switch.specs.Does.{closedStream, clearedAt, withClaim, tellRow}
+use Rattle.switch.proofs.Answers.{answer-by, byTests, clear}
+use Rattle.switch.proofs.Storing.{put, shut, lands-shut, blank-back, store-row, store-claim, sized, rows-eight}
+use Rattle.switch.proofs.Telling.{withResponses, all-told}
+
+-- The wire with node n's stream closed and nobody told.
+abbrev pub without : ℕ → S.Wire → S.Wire
+without n w = put n (shut (set (w .responses) (n - 1) [])) w
+
+pub wire-without : (n : ℕ) (w : S.Wire) → clearedAt n (packStreams w) (packClaims w) ≡ packWire (without n w)
+wire-without n w =
+    let x = shut (set (w .responses) (n - 1) []) in
+    let l = lands-shut n (set (w .responses) (n - 1) []) w in
+    λ i. record {
+      streams = store-row n x w l [] (blank-back (w .responses) (n - 1) []) (λ j z. getD-set-other (w .responses) (n - 1) j [] [] z) i;
+      claims = store-claim n x w l i;
+    }
+
+ordered-closed : OrderedStream closedStream
+ordered-closed = record { requests = ordered-requests [] (omega arith); responses = ordered-responses [] (omega arith) }
+
+module _ (count n : ℕ) (streams : List Stream) (claims : Claims) (h : AtWire count n streams claims) where
+  abbrev v : Told
+  v = toldOf count n true streams claims
+
+  abbrev w : S.Wire
+  w = holdWire count streams claims
+
+  abbrev others : List Stream
+  others = set streams (n - 1) closedStream
+
+  abbrev idsThen : List ElectionId
+  idsThen = set (claims .ids) (n - 1) (record { 0 = 0 })
+
+  pub below : n - 1 < count
+  below = let a = h .from in let b = h .upto in omega arith
+
+  -- ---- what is read
+
+  pub open-at : getD (v .opens) (n - 1) false ≡ getD streams (n - 1) pastStream .opened
+  unfolding holdWire
+  open-at = column-at openAt count (n - 1) streams pastStream below
+
+  pub ids-then : column idAt count idsThen ≡ idsLeft n v
+  unfolding holdWire idsLeft
+  ids-then = column-set idAt count (n - 1) (claims .ids) (record { 0 = 0 })
+
+  pub ids-now : column idAt count (claims .ids) ≡ v .ids
+  unfolding holdWire
+  ids-now = refl
+
+  opens-then : column openAt count others ≡ opensLeft n v
+  unfolding holdWire opensLeft
+  opens-then = column-set openAt count (n - 1) streams closedStream
+
+  responses-then : column responsesAt count others ≡ responsesLeft n v
+  unfolding holdWire responsesLeft
+  responses-then = column-set responsesAt count (n - 1) streams closedStream
+
+  pub ordered-others : OrderedRows count others
+  ordered-others = record { few = h .wire .few; rows = λ i lt. go i lt (ℕ-discrete i (n - 1)) }
+    where
+      go : (i : ℕ) → i < count → Dec (i ≡ n - 1) → OrderedStream (getD others i pastStream)
+      go i lt (yes e) =
+          let few : count ≤ 8 = h .wire .few in
+          let k = rows-eight _ streams (h .wire .streams-same) in
+          rw (e, getD-set-same streams (n - 1) closedStream pastStream (omega arith)) ordered-closed
+      go i lt (no z) = rw (getD-set-other streams (n - 1) i closedStream pastStream z) (h .wire .rows i lt)
+
+  -- ---- room
+
+  pub change-is : (b : Bool) → changes (column idAt count (claims .ids)) (column idAt count idsThen) ≡ b → changes (v .ids) (idsLeft n v) ≡ b
+  change-is b e = ap₂ changes (sym ids-now) (sym ids-then) ∙ e
+
+  pub room-quiet : changes (column idAt count (claims .ids)) (column idAt count idsThen) ≡ false → closeRoom n v ≡ true
+  unfolding closeRoom
+  room-quiet e = simp (change-is false e)
+
+  pub room-told : changes (column idAt count (claims .ids)) (column idAt count idsThen) ≡ true → closeRoom n v ≡ roomOpen (column openAt count others) (column responsesAt count others)
+  unfolding closeRoom
+  room-told e = simp (change-is true e) (ap₂ roomOpen (sym opens-then) (sym responses-then))
+
+  -- ---- the answer
+
+  pub close-answer : (o q : Bool) → getD streams (n - 1) pastStream .opened ≡ o → closeRoom n v ≡ q → answerOf (decide (closeRule n) v) ≡ byTests o true true q
+  unfolding closeRule
+  close-answer o q e f = answer-by (closeRule n) v o true true q (open-at ∙ e) refl refl f
+
+  pub close-roomy : answerOf (decide (closeRule n) v) ≡ stepDone → closeRoom n v ≡ true
+  unfolding closeRule
+  close-roomy e = clear (closeRule n) v e .queuesLeft
+
+  -- ---- the effect
+
+  without-is : clearedAt n streams claims ≡ packWire (without n w)
+  without-is = ap₂ (clearedAt n) (sym (h .wire .streams-same)) (sym (h .wire .claims-same)) ∙ wire-without n w
+
+  pub closed-quiet : changes (column idAt count (claims .ids)) (column idAt count idsThen) ≡ false → clearedAt n streams claims ≡ storeTelling n (closed n v) count streams claims
+  unfolding closed responsesLeft storeTelling
+  closed-quiet e = without-is ∙ simp (change-is false e)
+
+  pub closed-told : changes (column idAt count (claims .ids)) (column idAt count idsThen) ≡ true → closeRoom n v ≡ true
+      → record { streams = table mostNodes (tellRow (column openAt count others) (column idAt count idsThen) others); claims = withClaim n (record { 0 = 0 }) (record { 0 = 0 }) claims }
+      ≡ storeTelling n (closed n v) count streams claims
+  unfolding closed idsLeft opensLeft responsesLeft storeTelling packClaims
+  closed-told e f =
+      let s = sized count streams claims (h .wire) in
+      let n₁ : length (without n w .opens) ≡ length (without n w .responses) = length-set (w .opens) (n - 1) false ∙ s .opens ∙ sym (s .responses) ∙ sym (length-set (w .responses) (n - 1) []) in
+      let roomy : roomOpen (without n w .opens) (without n w .responses) ≡ true = ap₂ roomOpen (sym opens-then) (sym responses-then) ∙ sym (room-told e) ∙ f in
+      let rows : packStreams (without n w) ≡ others = ap (λ (x : Wire). x .streams) (sym without-is) in
+      ap₂ {C = Wire} (λ (a : List Bool) (i : List ℕ). record { streams = table mostNodes (tellRow a i others); claims = withClaim n (record { 0 = 0 }) (record { 0 = 0 }) claims }) opens-then ids-then
+      ∙ (λ i. record { streams = all-told (without n w) n₁ roomy others rows i; claims = without-is i .claims })
+      ∙ simp (change-is true e)

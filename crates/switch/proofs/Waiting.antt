@@ -1,0 +1,101 @@
+-- What waits at the head of a stream's requests, and the tests that Handle update and Handle write make of it. Assumes nothing.
+use mathlib.Core.Path.{_≡_, refl, sym, ap, _∙_}
+use mathlib.Core.Logic.{_≢_, ⊎-elim}
+use mathlib.Core.Bool.{Bool, true, false, not, cond, _&&_}
+use mathlib.Core.List.{List, [], _∷_}
+use Prim.Native.Nat.{ℕ}
+use native.Mathlib.Omega.{arith}
+use borrow.Author.Tests.{eq-eqb, ne-eqb}
+use types.Run.{OneOf}
+use denote.Enum.Declared.{tagOf}
+use Rattle.rules.specs.State as S
+use Rattle.rules.specs.Queues.{first, empty}
+use Rattle.rules.specs.Rules.{isUpdate, isWrite, noRequest}
+use Rattle.seqs.specs.Queue.{empty-held}
+use Rattle.parts.specs.Hold as P
+use Rattle.parts.specs.Hold.{holdRequest, holdRequests, packRequest, packMessage, requestsQueue}
+use Rattle.parts.specs.declared.Message.{Message}
+use Rattle.parts.specs.declared.Message.the-variants as M
+use Rattle.parts.proofs.Message.{the-type}
+use Rattle.state.specs.Order.{OrderedStream}
+use Rattle.state.specs.declared.Stream.{Stream}
+use Rattle.switch.specs.Asks.{HasHead}
+use Rattle.switch.specs.Does.{waiting}
+
+-- The four tests of Handle update and of Handle write hold.
+pub record Ready (running isOpen none kind : Bool) : Type 0 where
+  pub runs : running ≡ true
+  pub opened : isOpen ≡ true
+  pub some : none ≡ false
+  pub right : kind ≡ true
+
+pub ready : (r o e k : Bool) → (r && o && not e && k) ≡ true → Ready r o e k
+ready true true false true z = record { runs = refl; opened = refl; some = refl; right = refl }
+ready true true false false z = let y : _≡_ {A = ℕ} 0 1 = cc in absurd (omega arith)
+ready true true true k z = let y : _≡_ {A = ℕ} 0 1 = cc in absurd (omega arith)
+ready true false e k z = let y : _≡_ {A = ℕ} 0 1 = cc in absurd (omega arith)
+ready false o e k z = let y : _≡_ {A = ℕ} 0 1 = cc in absurd (omega arith)
+
+-- a request stands at the head of a queue that is not empty
+pub some-waits : (s : Stream) → OrderedStream s → s .requests .len ≢ 0 → HasHead s
+some-waits s o z = record { ordered = o; some = empty-held P.noRequest packRequest holdRequest (requestsQueue (s .requests)) (o .requests) ∙ ne-eqb (s .requests .len) 0 z }
+
+pub none-waits : (s : Stream) → OrderedStream s → s .requests .len ≡ 0 → empty (holdRequests (s .requests)) ≡ true
+none-waits s o e = empty-held P.noRequest packRequest holdRequest (requestsQueue (s .requests)) (o .requests) ∙ eq-eqb (s .requests .len) 0 e
+
+-- ---- an arm of a match on a message
+
+pub not-update : (m : Message) → OneOf (0 ∷ 2 ∷ []) (tagOf the-type m) → m ≡ M.Update → ⊥
+not-update M.Nothing k e = let z : _≡_ {A = ℕ} 0 1 = cc in omega arith
+not-update M.Update k e = ⊎-elim (λ z. omega arith) (λ z. omega arith) k
+not-update M.Write k e = let z : _≡_ {A = ℕ} 0 1 = cc in omega arith
+
+pub not-write : (m : Message) → OneOf (0 ∷ 1 ∷ []) (tagOf the-type m) → m ≡ M.Write → ⊥
+not-write M.Nothing k e = let z : _≡_ {A = ℕ} 0 1 = cc in omega arith
+not-write M.Update k e = let z : _≡_ {A = ℕ} 0 1 = cc in omega arith
+not-write M.Write k e = ⊎-elim (λ z. omega arith) (λ z. omega arith) k
+
+-- ---- what waits
+
+module _ (running : Bool) (s : Stream) where
+  abbrev able : Bool
+  able = running && s .opened && not (empty (holdRequests (s .requests)))
+
+  abbrev message : S.Message
+  message = first noRequest (holdRequests (s .requests)) .message
+
+  pub update-waits : waiting running s ≡ M.Update → (able && isUpdate message) ≡ true
+  unfolding waiting isUpdate
+  update-waits = go able message
+    where
+      go : (b : Bool) (k : S.Message) → cond b (packMessage k) M.Nothing ≡ M.Update → (b && isUpdate k) ≡ true
+      go true S.update e = refl
+      go true S.write e = let z : _≡_ {A = ℕ} 0 1 = cc in absurd (omega arith)
+      go false k e = let z : _≡_ {A = ℕ} 0 1 = cc in absurd (omega arith)
+
+  pub no-update-waits : (waiting running s ≡ M.Update → ⊥) → (able && isUpdate message) ≡ false
+  unfolding waiting isUpdate
+  no-update-waits = go able message
+    where
+      go : (b : Bool) (k : S.Message) → (cond b (packMessage k) M.Nothing ≡ M.Update → ⊥) → (b && isUpdate k) ≡ false
+      go true S.update e = absurd (e refl)
+      go true S.write e = refl
+      go false k e = refl
+
+  pub write-waits : waiting running s ≡ M.Write → (able && isWrite message) ≡ true
+  unfolding waiting isWrite
+  write-waits = go able message
+    where
+      go : (b : Bool) (k : S.Message) → cond b (packMessage k) M.Nothing ≡ M.Write → (b && isWrite k) ≡ true
+      go true S.update e = let z : _≡_ {A = ℕ} 0 1 = cc in absurd (omega arith)
+      go true S.write e = refl
+      go false k e = let z : _≡_ {A = ℕ} 0 1 = cc in absurd (omega arith)
+
+  pub no-write-waits : (waiting running s ≡ M.Write → ⊥) → (able && isWrite message) ≡ false
+  unfolding waiting isWrite
+  no-write-waits = go able message
+    where
+      go : (b : Bool) (k : S.Message) → (cond b (packMessage k) M.Nothing ≡ M.Write → ⊥) → (b && isWrite k) ≡ false
+      go true S.update e = refl
+      go true S.write e = absurd (e refl)
+      go false k e = refl
