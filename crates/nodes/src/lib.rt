@@ -9,11 +9,11 @@ ghost use Rattle.state.specs.Order.{OrderedNode, OrderedStream};
 ghost use Rattle.state.specs.Reads.{inboxOf, senderOf, receiverOf};
 ghost use Rattle.state.specs.Stores.{storeInbox, storeSent};
 ghost use Rattle.nodes.specs.Waiting.{sendAnswer, Waits, updateWaits, writeWaits, received};
-use parts::election_id;
-use parts::term_of;
 use parts::Message;
 use parts::Request;
 use parts::Status;
+use parts::election_id;
+use parts::term_of;
 use state::Node;
 use state::Stream;
 

@@ -17,7 +17,7 @@ pub const TOP_ID: u32 = 10008;
 
 pub const HISTORY_LENGTH: u16 = 1024;
 
-// The answer codes of a step.
+// The answer codes: of a step, and of an event list.
 pub const DONE: u8 = 0;
 
 pub const OUT_OF_RANGE: u8 = 1;
@@ -34,7 +34,15 @@ pub const HISTORY_FULL: u8 = 6;
 
 pub const QUEUE_FULL: u8 = 7;
 
+pub const BAD_LENGTH: u8 = 8;
+
+pub const BAD_TRAILER: u8 = 9;
+
 pub const BAD_NODE_COUNT: u8 = 10;
+
+pub const BAD_SUM: u8 = 11;
+
+pub const BUFFER_SHORT: u8 = 12;
 
 // A term of the election service.
 pub struct Term(pub u16);

@@ -1,4 +1,4 @@
--- The answer codes of a step. Where several would fit, the lowest number is given: see `decide` and `step`.
+-- The answer codes. Where several would fit, the lowest number is given: see `decide` and `step`.
 use Prim.Native.Nat.{ℕ}
 
 abbrev pub stepDone : ℕ
@@ -25,6 +25,20 @@ historyFull = 6
 abbrev pub queueFull : ℕ
 queueFull = 7
 
--- Asking for a fresh state of a node count that is not 1..8.
+-- ---- of an event list: it is refused whole
+
+abbrev pub badLength : ℕ
+badLength = 8
+
+abbrev pub badTrailer : ℕ
+badTrailer = 9
+
+-- Also where a fresh state is asked for.
 abbrev pub badNodeCount : ℕ
 badNodeCount = 10
+
+abbrev pub badSum : ℕ
+badSum = 11
+
+abbrev pub bufferShort : ℕ
+bufferShort = 12

@@ -54,6 +54,7 @@ module _ (m : Mastership) (o : OrderedMastership m) where
             backups = (ap (λ (t : List ℕ). drop 1 t ++ (0 ∷ [])) f ∙ padded-pop 0 asIs 6 x l (omega arith) ∙ ap (λ (t : List ℕ). padded 0 asIs 7 (rest t)) (sym e)) i;
             count = ((let p : m .count - 1 ≡ length l = omega arith in p) ∙ ap (λ (t : List ℕ). length (rest t)) (sym e)) i;
           }
+
   pub vacated : m .count ≡ 0 → record { term = m .term; master = 0; backups = m .backups; count = m .count } ≡ packMastership (record { term = m .term .0; master = 0; backups = [] })
   vacated e = go (holdMastership m .backups) refl
     where

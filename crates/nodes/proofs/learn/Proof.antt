@@ -17,7 +17,7 @@ pop-requires c κs = search needs
 
 returns : tie.Need-returns
 unfolding learnRule
-returns c = 
+returns c =
     let start = c .before .before .before in
     let q = start .args .node .events in
     λ i. record {

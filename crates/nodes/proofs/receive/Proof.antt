@@ -9,7 +9,7 @@ pop-requires : tie.Need-pop-requires
 pop-requires c κs = search needs
 
 returns : tie.Need-returns
-returns c = 
+returns c =
     let start = c .before .before in
     let s = start .args .stream in
     λ i. record {

@@ -43,7 +43,7 @@ loop-less : tie.Need-loop-less Inv-loop μ-loop
 loop-less c = search needs
 
 loop-again : tie.Need-loop-again Inv-loop μ-loop
-loop-again c = 
+loop-again c =
     let turn = c .before .before .before in
     let start = turn .before in
     let n = node-rows (start .args .count) (start .args .nodes) (start .pre .0) in
@@ -51,7 +51,7 @@ loop-again c =
     (omega arith, mapFirst-step (hears (start .args .m)) (turn .loop .i) (start .args .nodes) (turn .loop .next) pastNode (c .hear .result) (turn .loop .inv .1) (c .hear .ensures) (omega arith))
 
 returns : tie.Need-returns Inv-loop μ-loop
-returns c = 
+returns c =
     let turn = c .before in
     let start = turn .before in
     let n : turn .loop .i ≡ start .args .count = omega arith in

@@ -34,7 +34,7 @@ full-requires : tie.Need-full-requires Inv-loop μ-loop
 full-requires c κs = search needs
 
 returns : tie.Need-returns Inv-loop μ-loop
-returns c = 
+returns c =
     let turn = c .before .before .before .before .before in
     let start = turn .before in
     let nodes = start .args .t2 in
@@ -50,7 +50,7 @@ loop-less : tie.Need-loop-less Inv-loop μ-loop
 loop-less c = search needs
 
 loop-again : tie.Need-loop-again Inv-loop μ-loop
-loop-again c = 
+loop-again c =
     let turn = c .before .before .before .before .before in
     let start = turn .before in
     let nodes = start .args .t2 in
@@ -61,7 +61,7 @@ loop-again c =
     (omega arith, ap roomAll (column-more eventsAt i nodes pastNode (omega arith)) ∙ rooms-more (holdEvents (getD nodes i pastNode .events)) (column eventsAt i nodes) (turn .loop .inv .1) e)
 
 returns-2 : tie.Need-returns-2 Inv-loop μ-loop
-returns-2 c = 
+returns-2 c =
     let turn = c .before in
     let n : turn .loop .i ≡ turn .before .args .count = omega arith in
     sym (ap (λ (k : ℕ). roomAll (column eventsAt k (turn .before .args .t2))) (sym n) ∙ turn .loop .inv .1)

@@ -38,7 +38,7 @@ sub-t27 : tie.Need-sub-t27
 sub-t27 c = search needs
 
 returns : tie.Need-returns
-returns c = 
+returns c =
     let start = c .before .before .before in
     let m = start .args .m in
     let n : length (m .backups) ≡ 7 = simp length-map at (start .good .0 .1 .1 .1 .1 .0 .1 .0 .1) in

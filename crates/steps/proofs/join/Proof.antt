@@ -16,7 +16,7 @@ joined-requires : tie.Need-joined-requires
 joined-requires c κs = joins (c .before .before .before .before .before .args .body) (c .before .before .before .before .before .args .number) (c .before .before .before .before .before .pre) (sym (c .before .join-code .ensures) ∙ c .if1 .taken)
 
 post-requires : tie.Need-post-requires
-post-requires c κs = 
+post-requires c κs =
     let z = sym (c .before .before .join-code .ensures) ∙ c .before .if1 .taken in
     (in-order-nodes (c .before .before .before .before .before .before .args .body) (c .before .before .before .before .before .before .pre .ready), join-written (c .before .before .before .before .before .before .args .body) (c .before .before .before .before .before .before .args .number) (c .before .before .before .before .before .before .pre) z (c .joined .result) (c .joined .ensures), join-room (c .before .before .before .before .before .before .args .body) (c .before .before .before .before .before .before .args .number) (c .before .before .before .before .before .before .pre) z)
 

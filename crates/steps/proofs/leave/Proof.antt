@@ -19,9 +19,8 @@ hands-over-requires : tie.Need-hands-over-requires
 hands-over-requires c κs = search needs
 
 post-requires : tie.Need-post-requires
-post-requires c κs = 
-    let z = sym (c .before .before .before .before .leave-code .ensures) ∙ c .before .before .before .if1 .taken in
-    (
+post-requires c κs =
+    let z = sym (c .before .before .before .before .leave-code .ensures) ∙ c .before .before .before .if1 .taken in (
       in-order-nodes (c .before .before .before .before .before .before .before .before .args .body) (c .before .before .before .before .before .before .before .before .pre .ready),
       leave-written (c .before .before .before .before .before .before .before .before .args .body) (c .before .before .before .before .before .before .before .before .args .number) (c .before .before .before .before .before .before .before .before .pre) z (c .before .before .left .result) (c .before .before .left .ensures),
       leave-room (c .before .before .before .before .before .before .before .before .args .body) (c .before .before .before .before .before .before .before .before .args .number) (c .before .before .before .before .before .before .before .before .pre) z (sym (c .before .hands-over .ensures) ∙ c .if2 .taken),
