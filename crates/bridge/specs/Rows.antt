@@ -58,6 +58,14 @@ module _ {A : Type 0} (P : A → Type 0) where
 pub all-known : {A : Type 0} {S P : A → Type 0} (p : A → Bool) → ((x : A) → S x → T (p x) → P x) → (l : List A) → All S l → T (all p l) → All P l
 all-known p f l h t = all-with f l h (is-all (λ x. as-is (p x)) l .to t)
 
+-- Of an element that holds no array nothing need be known.
+abbrev pub Any : {A : Type 0} → A → Type 0
+Any x = Unit {0}
+
+pub all-any : {A : Type 0} (l : List A) → All Any l
+all-any [] = tt
+all-any (x ∷ l) = (tt, all-any l)
+
 -- Past its end a column has what is asked for there.
 pub column-past : {A B : Type 0} (f : A → B) (n i : ℕ) (l : List A) (d : B) → n ≤ length l → n ≤ i → getD (column f n l) i d ≡ d
 column-past f n i l d few h = List·getD-eq-default (column f n l) d (let e = length-column f n l few in omega arith)

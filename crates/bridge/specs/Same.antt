@@ -35,7 +35,7 @@ use Rattle.state.specs.Hold.{eventsAt, learnedAt, saysAt, openAt, sentAt, reque
 use Rattle.state.specs.Order.{pastNode, pastStream}
 use Rattle.state.specs.Tidy.{isZero, noMessage, noStatus, blankMastership, blankRequest, blankResponse, tidyMastership, tidyRequest, tidyResponse, tidyPlaces, tidyNode, tidyStream, blankNode, blankStream, blankId, blankTerm, tidyCore, anyWrite, blankWrite, tidyHistory, stateFits}
 use Rattle.bridge.specs.Sized.{SizedMastership, SizedNode, SizedStream, Sized}
-use Rattle.bridge.specs.Rows.{all-take, all-drop, all-known, column-past, table-same, padded-same}
+use Rattle.bridge.specs.Rows.{Any, all-any, all-take, all-drop, all-known, column-past, table-same, padded-same}
 
 -- ---- the places of any array
 
@@ -66,14 +66,6 @@ module _ {A B : Type 0} (e : Element A B) (size : ℕ) (l : List B) (sized : len
   -- All places are blank.
   places-none : T (all (e .isBlank) l) → l ≡ padded (e .blank) (e .rep) size []
   places-none t = sym (padded-same (e .blank) (e .rep) (e .hold) size 0 l sized tt (all-known (e .isBlank) (e .none) l known t))
-
--- Of an element that holds no array nothing need be known.
-abbrev Any : {B : Type 0} → B → Type 0
-Any x = Unit {0}
-
-all-any : {B : Type 0} (l : List B) → All Any l
-all-any [] = tt
-all-any (x ∷ l) = (tt, all-any l)
 
 all-refl : {B : Type 0} (l : List B) → All (λ x. x ≡ x) l
 all-refl [] = tt

@@ -10,7 +10,7 @@ use Rattle.rules.specs.Codes.{stepDone, notAllowed}
 use Rattle.rules.specs.State as S
 use Rattle.rules.specs.Part.{Rule, via, decide}
 use Rattle.rules.specs.Parts.{Linked, Told, Telling, Served, Serving, Power, linkPart, tellPart, servePart, powerPart, onDevice}
-use Rattle.rules.specs.Rules.{shutdown, startup, shutdownRule, startupRule, cleared}
+use Rattle.rules.specs.Rules.{shutdown, startup, closeRule, closeRoom, closed, idsLeft, opensLeft, responsesLeft, shutdownRule, startupRule, cleared}
 use Rattle.rules.specs.Step.{act}
 use Rattle.laws.specs.Decide.{Passes}
 use Rattle.state.specs.Hold.{holdCore, holdWire, packStreams, packClaims}
@@ -22,6 +22,7 @@ use Rattle.state.specs.declared.Wire.{Wire}
 use Rattle.state.specs.declared.Body.{Body}
 use Rattle.state.specs.declared.Moved.{Moved}
 use Rattle.parts.specs.declared.Term.{Term}
+use Rattle.switch.specs.Asks.{AtWire, AtStream}
 use Rattle.moves.specs.Bodies.{stateOf, bodyOf, acceptedIn, Ready, Leaves}
 use Rattle.moves.specs.Sets.{withWire, withStream, withLast}
 use Rattle.moves.specs.Gets.{streamOf, linked-read, served-read}
@@ -83,6 +84,19 @@ module _ (b : Body) (n : ℕ) (a : At b n) (history : List S.Write) where
     serve-yes p m c f g =
         done-at (onDevice (servePart n)) r n b (a .ready) history u (served-read b n (row-in b n a) history) p m c
         (f ∙ serving-stored-at b (a .ready) history n (row-in b n a) (r .effect u)) (ap (λ (l : List S.Write). history ++ l) g)
+
+module _ (b : Body) (n : ℕ) (a : At b n) where
+  pub at-wire : AtWire (b .count) n (b .core .streams) (b .core .claims)
+  at-wire = record { wire = in-order-wire b (a .ready); from = a .low; upto = a .high }
+
+  pub at-stream : AtStream (b .count) n (streamOf b n)
+  at-stream = record { within = record { few = a .few; from = a .low; upto = a .high }; ordered = in-order-wire b (a .ready) .rows (n - 1) (row-in b n a) }
+
+  -- Close does not ask whether the switch runs.
+  pub close-answer : answerOf (decide (closeRule n) (toldOf (b .count) n true (b .core .streams) (b .core .claims)))
+      ≡ answerOf (decide (closeRule n) (toldOf (b .count) n (b .running) (b .core .streams) (b .core .claims)))
+  unfolding decide closeRule closeRoom closed idsLeft opensLeft responsesLeft
+  close-answer = refl
 
 -- ---- 12, 13 Shutdown, Startup: they carry node 0
 

@@ -1,0 +1,43 @@
+-- `core_fits` meets its contract. Assumes nothing.
+use borrow.Author.Needs.{needs}
+use borrow.Author.Tests.{le-leb}
+use Rattle.seqs.specs.Tests.{tests}
+use Rattle.ranges.specs.Tests.{coreTest}
+use Rattle.ranges.specs.Each.{told}
+use Rattle.ranges.proofs.core_fits.Statement.{statement}
+use Rattle.ranges.proofs.core_fits.Tie as tie
+
+returns : tie.Need-returns
+unfolding coreTest
+returns c = search tests
+
+service-fits-requires : tie.Need-service-fits-requires
+service-fits-requires c κs = search needs
+
+nodes-fit-requires : tie.Need-nodes-fit-requires
+nodes-fit-requires c κs = search needs
+
+streams-fit-requires : tie.Need-streams-fit-requires
+streams-fit-requires c κs = search needs
+
+ids-fit-requires : tie.Need-ids-fit-requires
+ids-fit-requires c κs = search needs
+
+returns-2 : tie.Need-returns-2
+unfolding coreTest
+returns-2 c = simp (le-leb _ _ (c .before .before .before .before .before .before .before .if1 .left), told (c .before .before .before .before .before .before .service-fits .ensures) (c .before .before .before .before .before .if2 .taken), told (c .before .before .before .before .nodes-fit .ensures) (c .before .before .before .if3 .taken), told (c .before .before .streams-fit .ensures) (c .before .if4 .taken)) (c .ids-fit .ensures)
+
+returns-3 : tie.Need-returns-3
+unfolding coreTest
+returns-3 c = simp (le-leb _ _ (c .before .before .before .before .before .before .if1 .left), told (c .before .before .before .before .before .service-fits .ensures) (c .before .before .before .before .if2 .taken), told (c .before .before .before .nodes-fit .ensures) (c .before .before .if3 .taken), told (c .before .streams-fit .ensures) (c .if4 .left))
+
+returns-4 : tie.Need-returns-4
+unfolding coreTest
+returns-4 c = simp (le-leb _ _ (c .before .before .before .before .if1 .left), told (c .before .before .before .service-fits .ensures) (c .before .before .if2 .taken), told (c .before .nodes-fit .ensures) (c .if3 .left))
+
+returns-5 : tie.Need-returns-5
+unfolding coreTest
+returns-5 c = simp (le-leb _ _ (c .before .before .if1 .left), told (c .before .service-fits .ensures) (c .if2 .left))
+
+pub core-fits-spec : {M : Type 1} → statement M
+core-fits-spec = tie.close (tie.spec returns service-fits-requires nodes-fit-requires streams-fit-requires ids-fit-requires returns-2 returns-3 returns-4 returns-5)

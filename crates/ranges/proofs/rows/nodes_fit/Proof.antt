@@ -1,0 +1,78 @@
+-- `nodes_fit` meets its contract. The loop has passed the first i places. Assumes nothing.
+use mathlib.Core.Path.{_≡_, refl, sym, ap, _∙_}
+use mathlib.Core.Bool.{true}
+use Prim.Native.Nat.{ℕ, _≤_, _-_}
+use native.Mathlib.Omega.{arith}
+use borrow.Author.Needs.{needs}
+use Rattle.rules.specs.Range.{each}
+use Rattle.state.specs.Order.{pastNode}
+use Rattle.ranges.specs.Tests.{place, nodeTest, blankNodeTest, nodesTest}
+use Rattle.ranges.specs.Each.{told, each-more, each-not}
+use Rattle.ranges.proofs.rows.nodes_fit.Statement.{statement}
+use Rattle.ranges.proofs.rows.nodes_fit.Tie as tie
+
+abbrev Inv-loop : tie.InvT-loop
+Inv-loop count core i₀ i = (i ≤ 8) × (each i (place (nodeTest count) blankNodeTest pastNode (core .nodes) count) ≡ true)
+
+abbrev μ-loop : tie.MeasureT-loop
+μ-loop count core i₀ i = 8 - i
+
+loop-holds : tie.Need-loop-holds Inv-loop μ-loop
+unfolding each
+loop-holds c = (omega arith, refl)
+
+cast-at : tie.Need-cast-at Inv-loop μ-loop
+cast-at c = search needs
+
+mul-row : tie.Need-mul-row Inv-loop μ-loop
+mul-row c = search needs
+
+element-copy-out-row : tie.Need-element-copy-out-row Inv-loop μ-loop
+element-copy-out-row c = search needs
+
+node-place-fits-requires : tie.Need-node-place-fits-requires Inv-loop μ-loop
+node-place-fits-requires c κs = search needs
+
+add-i : tie.Need-add-i Inv-loop μ-loop
+add-i c = search needs
+
+loop-less : tie.Need-loop-less Inv-loop μ-loop
+loop-less c = search needs
+
+loop-again : tie.Need-loop-again Inv-loop μ-loop
+loop-again c =
+    let turn = c .before .before .before .before in
+    let a = turn .before .args in
+    (omega arith, each-more (place (nodeTest (a .count)) blankNodeTest pastNode (a .t2 .nodes) (a .count)) (turn .loop .i) (turn .loop .inv .1) (told (c .before .node-place-fits .ensures) (c .if1 .taken)))
+
+returns : tie.Need-returns Inv-loop μ-loop
+unfolding nodesTest
+returns c =
+    let turn = c .before .before .before .before in
+    let a = turn .before .args in
+    sym (each-not (place (nodeTest (a .count)) blankNodeTest pastNode (a .t2 .nodes) (a .count)) 8 (turn .loop .i) (omega arith) (told (c .before .node-place-fits .ensures) (c .if1 .left)))
+
+returns-2 : tie.Need-returns-2 Inv-loop μ-loop
+unfolding nodesTest
+returns-2 c =
+    let turn = c .before in
+    let a = turn .before .args in
+    let n : turn .loop .i ≡ 8 = omega arith in
+    sym (turn .loop .inv .1) ∙ ap (λ (k : ℕ). each k (place (nodeTest (a .count)) blankNodeTest pastNode (a .t2 .nodes) (a .count))) n
+
+pub nodes-fit-spec : {M : Type 1} → statement M
+nodes-fit-spec =
+    tie.close
+    (tie.spec
+    Inv-loop
+    μ-loop
+    loop-holds
+    cast-at
+    mul-row
+    element-copy-out-row
+    node-place-fits-requires
+    add-i
+    loop-less
+    loop-again
+    returns
+    returns-2)

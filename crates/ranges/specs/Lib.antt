@@ -1,0 +1,8 @@
+pub mod Tests
+pub mod Each
+pub mod Places
+pub mod First
+pub mod Masterships
+pub mod Queues
+pub mod Rows
+pub mod Agree

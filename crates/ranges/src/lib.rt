@@ -1,0 +1,45 @@
+// Whether a state is in range: the test whose no is code 1. Every place of every array is looked at.
+mod masterships;
+mod messages;
+mod rows;
+
+ghost use mathlib.Core.Path.{_≡_};
+ghost use Prim.Native.Nat.{_≤_};
+ghost use Rattle.rules.specs.Limits.{mostNodes};
+ghost use Rattle.state.specs.Tidy.{stateFits};
+ghost use Rattle.ranges.specs.Tests.{coreTest};
+use state::Core;
+use state::State;
+
+// What one role owns.
+fn core_fits(count: u8, running: bool, core: Core) -> bool
+    requires { ⌜ count ≤ mostNodes ⌝ }
+    ensures { λ r. ⌜ r ≡ coreTest count running core ⌝ }
+{
+    let service = core.service;
+    let claims = core.claims;
+    if parts::TOP_TERM < claims.last.0 {
+        return false;
+    }
+    if masterships::service_fits(count, service) {
+        if rows::nodes_fit(count, core) {
+            if rows::streams_fit(count, running, core) {
+                return rows::ids_fit(count, claims);
+            }
+        }
+    }
+    false
+}
+
+pub fn in_range(s: State) -> bool
+    ensures { λ r. ⌜ r ≡ stateFits s ⌝ }
+{
+    let core = s.core;
+    let history = s.history;
+    if masterships::is_node(parts::MOST_NODES, s.count) {
+        if core_fits(s.count, s.running, core) {
+            return rows::history_fits(s.count, history);
+        }
+    }
+    false
+}
