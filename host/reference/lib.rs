@@ -5,6 +5,7 @@
 pub mod codes;
 mod controller;
 pub mod history;
+pub mod kinds;
 pub mod limits;
 mod list;
 pub mod mastership;
@@ -12,8 +13,8 @@ pub mod queue;
 mod service;
 pub mod state;
 pub mod switch;
-
-
+#[cfg(test)]
+mod tests;
 
 use codes::{answer_byte, Refusal};
 use limits::{HISTORY_BYTES, RAN, RECORD_BYTES};

@@ -2,6 +2,7 @@
 
 use crate::codes::{ensure, Outcome, Refusal};
 use crate::history::History;
+use crate::kinds::*;
 use crate::limits::MOST_NODES;
 use crate::mastership::{ElectionId, Mastership, Term, NO_ID, NO_TERM};
 use crate::queue::Queue;
@@ -107,24 +108,24 @@ impl<'a> State<'a> {
 
     pub fn step(&mut self, kind: u8, node: u8) -> Outcome {
         let fits = match kind {
-            1..=11 => (1..=self.nodes).contains(&node),
-            12 | 13 => node == 0,
+            JOIN..=HANDLE_WRITE => (1..=self.nodes).contains(&node),
+            SHUTDOWN | STARTUP => node == 0,
             _ => return Err(Refusal::UnknownKind),
         };
         ensure(fits, Refusal::WrongNode)?;
         match kind {
-            1 => self.join(node),
-            2 => self.leave(node),
-            3 => self.learn(node),
-            4 => self.send_update(node),
-            5 => self.receive_update(node),
-            6 => self.send_write(node),
-            7 => self.receive_write(node),
-            8 => self.connect(node),
-            9 => self.close(node),
-            10 => self.handle_update(node),
-            11 => self.handle_write(node),
-            12 => self.shutdown(),
+            JOIN => self.join(node),
+            LEAVE => self.leave(node),
+            LEARN => self.learn(node),
+            SEND_UPDATE => self.send_update(node),
+            RECEIVE_UPDATE => self.receive_update(node),
+            SEND_WRITE => self.send_write(node),
+            RECEIVE_WRITE => self.receive_write(node),
+            CONNECT => self.connect(node),
+            CLOSE => self.close(node),
+            HANDLE_UPDATE => self.handle_update(node),
+            HANDLE_WRITE => self.handle_write(node),
+            SHUTDOWN => self.shutdown(),
             _ => self.startup(),
         }
     }

@@ -27,7 +27,7 @@ use Rattle.state.specs.declared.State.{State}
 use Rattle.bridge.specs.Sized.{SizedNode, SizedStream, Sized}
 use Rattle.bridge.specs.Rows.{all-any, all-take, taken-at, dropped-at}
 use Rattle.ranges.specs.Tests.{nodeTest, blankNodeTest, nodesTest, streamPlace, streamsTest, idTest, idsTest, historyTest, coreTest, stateTest}
-use Rattle.ranges.specs.Places.{agree, is-then, all-taken, all-dropped, all-mapped, all-unmapped, is-places}
+use Rattle.ranges.specs.Places.{agree, is-then, all-taken, all-dropped, all-each, all-mapped, all-unmapped, is-places}
 use Rattle.ranges.specs.First.{ids-first, first-ids}
 use Rattle.ranges.specs.Masterships.{is-service}
 use Rattle.ranges.specs.Queues.{listFits, accepted, is-queue}
@@ -39,23 +39,33 @@ module _ (n : ℕ) (l : List Node) (sized : length l ≡ mostNodes) (known : All
   abbrev NodeFits : Node → Type 0
   NodeFits r = T (tidyNode r) × (T (queueFits (mastershipFits n) (eventsAt r)) × T (learnedFits n (learnedAt r)))
 
+  abbrev queuesFit : Bool
+  queuesFit = all (queueFits (mastershipFits n)) (column eventsAt n l)
+
+  abbrev allLearned : Bool
+  allLearned = all (learnedFits n) (column learnedAt n l)
+
   -- By columns.
-  is-nodes-columns : Is (all tidyNode (take n l) && all (queueFits (mastershipFits n)) (column eventsAt n l) && all (learnedFits n) (column learnedAt n l) && all blankNode (drop n l))
+  is-nodes-columns : Is (all tidyNode (take n l) && queuesFit && allLearned && all blankNode (drop n l))
       (All NodeFits (take n l) × All (λ r. T (blankNode r)) (drop n l))
   is-nodes-columns =
       is-map
       (λ t. let c = t .0 in (
-        all-with (λ r a b. (a, b)) (take n l) (c .0 .0) (all-with (λ r a b. (a, b)) (take n l) (all-unmapped (λ q. T (queueFits (mastershipFits n) q)) eventsAt (take n l) (c .0 .1)) (all-unmapped (λ m. T (learnedFits n m)) learnedAt (take n l) (c .1))),
+        all-with (λ r a b. (a, b)) (take n l) (c .0 .0)
+            (all-with (λ r a b. (a, b)) (take n l)
+            (all-unmapped (λ q. T (queueFits (mastershipFits n) q)) eventsAt (take n l) (c .0 .1))
+            (all-unmapped (λ m. T (learnedFits n m)) learnedAt (take n l) (c .1))),
         t .1,
       ))
       (λ h. let a = h .0 in (
         (
-          (all-with (λ r x y. x .0) (take n l) a a, all-mapped (λ q. T (queueFits (mastershipFits n) q)) eventsAt (take n l) (all-with (λ r x y. x .1 .0) (take n l) a a)),
-          all-mapped (λ m. T (learnedFits n m)) learnedAt (take n l) (all-with (λ r x y. x .1 .1) (take n l) a a),
+          (all-each (λ r x. x .0) (take n l) a, all-mapped (λ q. T (queueFits (mastershipFits n) q)) eventsAt (take n l) (all-each (λ r x. x .1 .0) (take n l) a)),
+          all-mapped (λ m. T (learnedFits n m)) learnedAt (take n l) (all-each (λ r x. x .1 .1) (take n l) a),
         ),
         h .1,
       ))
-      (is-all (λ r. as-is (tidyNode r)) (take n l) & is-all (λ q. as-is (queueFits (mastershipFits n) q)) (column eventsAt n l) & is-all (λ m. as-is (learnedFits n m)) (column learnedAt n l) & is-all (λ r. as-is (blankNode r)) (drop n l))
+      (is-all (λ r. as-is (tidyNode r)) (take n l) & is-all (λ q. as-is (queueFits (mastershipFits n) q)) (column eventsAt n l)
+      & is-all (λ m. as-is (learnedFits n m)) (column learnedAt n l) & is-all (λ r. as-is (blankNode r)) (drop n l))
 
   -- By rows.
   is-nodes : Is (nodesTest n l) (All NodeFits (take n l) × All (λ r. T (blankNode r)) (drop n l))
@@ -72,7 +82,8 @@ none-open true opens = record { to = λ t. every opens; from = λ h. tt }
     every (o ∷ l) = (tt, every l)
 none-open false opens = is-all (λ o. as-is (not o)) opens
 
-module _ (n : ℕ) (running : Bool) (l : List Stream) (claims : Claims) (sized : length l ≡ mostNodes) (known : All SizedStream l) (ids : length (claims .ids) ≡ mostNodes) (terms : length (claims .terms) ≡ mostNodes) where
+module _ (n : ℕ) (running : Bool) (l : List Stream) (claims : Claims) (sized : length l ≡ mostNodes) (known : All SizedStream l)
+    (ids : length (claims .ids) ≡ mostNodes) (terms : length (claims .terms) ≡ mostNodes) where
   abbrev at : ℕ → Stream
   at i = getD l i pastStream
 
@@ -140,7 +151,11 @@ module _ (n : ℕ) (running : Bool) (l : List Stream) (claims : Claims) (sized :
       go : Dec (i < n) → T (streamPlace n running l claims i)
       go (yes j) = is-used i h j .from (
         taken-at (λ r. T (tidyStream r)) n i l pastStream (s .tidy) j (omega arith),
-        (subst T (stream-at i j) (s .fit i j), taken-at (λ r. T (running || not (r .opened))) n i l pastStream (all-unmapped (λ o. T (running || not o)) openAt (take n l) (s .stopped)) j (omega arith)),
+        (
+          subst T (stream-at i j) (s .fit i j),
+          taken-at (λ r. T (running || not (r .opened))) n i l pastStream
+              (all-unmapped (λ o. T (running || not o)) openAt (take n l) (s .stopped)) j (omega arith),
+        ),
       )
       go (no j) = let z : n ≤ i = omega arith in is-behind i h z .from (
         (dropped-at (λ r. T (blankStream r)) n i l pastStream (s .blank) z (omega arith), dropped-at (λ x. T (blankId x)) n i (claims .ids) (record { 0 = 0 }) (s .no-ids) z (omega arith)),
@@ -159,7 +174,8 @@ module _ (n : ℕ) (running : Bool) (l : List Stream) (claims : Claims) (sized :
       let held = column idAt n (claims .ids) in
       let count = length-column idAt n (claims .ids) (omega arith) in
       is-map
-      (λ f. is-distinct-ids held .from (first-ids held (λ i k z. let j : i < n = omega arith in let e = column-at idAt n i (claims .ids) (record { 0 = 0 }) j in rw e (f i j (λ o. z (e ∙ o))))))
+      (λ f. is-distinct-ids held .from (first-ids held (λ i k z.
+      let j : i < n = omega arith in let e = column-at idAt n i (claims .ids) (record { 0 = 0 }) j in rw e (f i j (λ o. z (e ∙ o))))))
       (λ t i j z. let e = column-at idAt n i (claims .ids) (record { 0 = 0 }) j in rw e at (ids-first held (is-distinct-ids held .to t) i (omega arith) (λ o. z (sym e ∙ o))))
       (is-each (λ i. is-unless (isZero (idOf i)) (is-ne (idOf i) 0) (is-eq (before (idOf i) held) i)) n)
 
@@ -276,7 +292,8 @@ module _ (s : State) (k : Sized s) where
   is-state =
       let w = holdHistory (s .history) in
       let columns = is-nodes-columns n nodes (k .nodes) (k .node-rows) in
-      let four = as-is (all tidyNode (take n nodes)) & as-is (all (queueFits (mastershipFits n)) (column eventsAt n nodes)) & as-is (all (learnedFits n) (column learnedAt n nodes)) & as-is (all blankNode (drop n nodes)) in
+      let four = as-is (all tidyNode (take n nodes)) & as-is (all (queueFits (mastershipFits n)) (column eventsAt n nodes))
+      & as-is (all (learnedFits n) (column learnedAt n nodes)) & as-is (all blankNode (drop n nodes)) in
       let listed = as-is (leb (length w) historyLength) & as-is (all (writeFits n) w) in
       is-map
       (λ t. let y = t .0 .0 in let z = y .0 .0 .0 .0 in let c = t .1 .0 .0 .1 in

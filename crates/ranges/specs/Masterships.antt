@@ -16,14 +16,13 @@ use Rattle.rules.specs.Ids.{placeOf}
 use Rattle.rules.specs.Range.{within, backupFits, mastershipFits, serviceFits, learnedFits}
 use Rattle.laws.specs.InRange.{All, Distinct, Within}
 use Rattle.laws.specs.Tests.{Is, is-map, _&_, as-is, is-le, is-eq, is-ne, is-within, is-empty, is-all, is-each, is-distinct}
-use Rattle.laws.specs.Lists.{all-with}
 use Rattle.parts.specs.Hold.{holdMastership}
 use Rattle.parts.specs.declared.Mastership.{Mastership}
 use Rattle.state.specs.Tidy.{isZero, blankMastership, tidyMastership}
 use Rattle.bridge.specs.Sized.{SizedMastership}
 use Rattle.bridge.specs.Rows.{taken-at, dropped-at}
 use Rattle.ranges.specs.Tests.{backupAt, backupPlace, backupsTest, blankTest, eventTest, serviceTest, learnedTest}
-use Rattle.ranges.specs.Places.{all-taken, all-dropped}
+use Rattle.ranges.specs.Places.{all-each, all-taken, all-dropped}
 use Rattle.ranges.specs.First.{ids-first, first-ids, ids-of, distinct-of}
 
 -- ---- backups
@@ -57,7 +56,7 @@ module _ (n : ℕ) (m : Mastership) (sized : SizedMastership m) where
   at i = getD (m .backups) i 0
 
   above : (l : List ℕ) → All Fit l → All (λ x. x ≢ 0) l
-  above l h = all-with (λ x a b. nonzero x (a .0)) l h h
+  above l h = all-each (λ x a. nonzero x (a .0)) l h
     where
       nonzero : (x : ℕ) → Within 1 n x → x ≢ 0
       nonzero x w e = let z : 1 ≤ x = w .lower in omega arith

@@ -24,7 +24,7 @@ use Rattle.state.specs.declared.Write.{Write}
 use Rattle.bridge.specs.Sized.{SizedMastership}
 use Rattle.bridge.specs.Rows.{Any}
 use Rattle.ranges.specs.Tests.{placesTest, eventTest, blankTest, requestTest, statusTest, responseTest, writeTest}
-use Rattle.ranges.specs.Places.{all-mapped, all-unmapped, is-places-test}
+use Rattle.ranges.specs.Places.{all-each, all-mapped, all-unmapped, is-places-test}
 use Rattle.ranges.specs.Masterships.{is-event, is-blank}
 
 -- ---- any queue
@@ -49,6 +49,13 @@ module _ {A B : Type 0} (e : Element A B) (size : ℕ) (l : List B) (sized : len
   abbrev inUse : List A
   inUse = map (e .hold) (take len l)
 
+  -- What the test of the places finds, and what the specification asks.
+  abbrev Found : Type 0
+  Found = (len ≤ size) × (All (λ x. T (e .tidy x) × T (e .fits (e .hold x))) (take len l) × All (λ x. T (e .blank x)) (drop len l))
+
+  abbrev Asked : Type 0
+  Asked = T (tidyPlaces size (e .tidy) (e .blank) l len) × T (listFits size (e .fits) inUse)
+
   is-tidy : Is (tidyPlaces size (e .tidy) (e .blank) l len) (((len ≤ size) × All (λ x. T (e .tidy x)) (take len l)) × All (λ x. T (e .blank x)) (drop len l))
   unfolding tidyPlaces
   is-tidy = is-le len size & is-all (λ x. as-is (e .tidy x)) (take len l) & is-all (λ x. as-is (e .blank x)) (drop len l)
@@ -59,17 +66,17 @@ module _ {A B : Type 0} (e : Element A B) (size : ℕ) (l : List B) (sized : len
   pub held-length : len ≤ size → length inUse ≡ len
   held-length h = length-map (take len l) (e .hold) ∙ length-take-le len l (omega arith)
 
-  pub is-queue : Is (placesTest size (e .used) (e .behind) d l len) (T (tidyPlaces size (e .tidy) (e .blank) l len) × T (listFits size (e .fits) inUse))
+  pub is-queue : Is (placesTest size (e .used) (e .behind) d l len) Asked
   is-queue = is-map there back
       (is-places-test (e .used) (e .behind) d l len size sized (e .Known) (λ x. T (e .tidy x) × T (e .fits (e .hold x))) (λ x. T (e .blank x)) (e .is-used) (e .is-behind) known)
     where
-      there : (len ≤ size) × (All (λ x. T (e .tidy x) × T (e .fits (e .hold x))) (take len l) × All (λ x. T (e .blank x)) (drop len l)) → T (tidyPlaces size (e .tidy) (e .blank) l len) × T (listFits size (e .fits) inUse)
+      there : Found → Asked
       there t = let n = held-length (t .0) in let h : len ≤ size = t .0 in (
-        is-tidy .from ((t .0, all-with (λ x a b. a .0) (take len l) (t .1 .0) (t .1 .0)), t .1 .1),
-        is-fitting .from (omega arith, all-mapped (λ x. T (e .fits x)) (e .hold) (take len l) (all-with (λ x a b. a .1) (take len l) (t .1 .0) (t .1 .0))),
+        is-tidy .from ((t .0, all-each (λ x a. a .0) (take len l) (t .1 .0)), t .1 .1),
+        is-fitting .from (omega arith, all-mapped (λ x. T (e .fits x)) (e .hold) (take len l) (all-each (λ x a. a .1) (take len l) (t .1 .0))),
       )
 
-      back : T (tidyPlaces size (e .tidy) (e .blank) l len) × T (listFits size (e .fits) inUse) → (len ≤ size) × (All (λ x. T (e .tidy x) × T (e .fits (e .hold x))) (take len l) × All (λ x. T (e .blank x)) (drop len l))
+      back : Asked → Found
       back t = let a = is-tidy .to (t .0) in let b = is-fitting .to (t .1) in
           (a .0 .0, (all-with (λ x p q. (p, q)) (take len l) (a .0 .1) (all-unmapped (λ x. T (e .fits x)) (e .hold) (take len l) (b .1)), a .1))
 
@@ -91,7 +98,10 @@ module _ {A B : Type 0} (e : Element A B) (size : ℕ) (l : List B) (sized : len
     where
       there : All (λ x. T (e .blank x)) l × (len ≡ 0) → T (tidyPlaces size (e .tidy) (e .blank) l len) × (inUse ≡ [])
       there t = (
-        is-tidy .from (((let z : len ≡ 0 = t .1 in omega arith), subst (λ (k : ℕ). All (λ x. T (e .tidy x)) (take k l)) (sym (t .1)) tt), subst (λ (k : ℕ). All (λ x. T (e .blank x)) (drop k l)) (sym (t .1)) (t .0)),
+        is-tidy .from (
+          ((let z : len ≡ 0 = t .1 in omega arith), subst (λ (k : ℕ). All (λ x. T (e .tidy x)) (take k l)) (sym (t .1)) tt),
+          subst (λ (k : ℕ). All (λ x. T (e .blank x)) (drop k l)) (sym (t .1)) (t .0),
+        ),
         ap (λ (k : ℕ). map (e .hold) (take k l)) (t .1),
       )
 

@@ -54,7 +54,8 @@ no-mastership : (q : List S.Mastership) → T (listFits queueLength (mastershipF
 unfolding all mastershipFits
 no-mastership [] t = refl
 no-mastership (m ∷ q) t = let a = (as-is (leb (length (m ∷ q)) queueLength) & (as-is (mastershipFits 0 m) & as-is (all (mastershipFits 0) q))) .to t .1 .0 in
-    absurd (nobody (m .master) ((as-is (within 1 topTerm (m .term)) & as-is (within 1 0 (m .master)) & as-is (all (backupFits 0 (m .master)) (m .backups)) & as-is (distinct (m .backups))) .to a .0 .0 .1))
+    let b = as-is (within 1 topTerm (m .term)) & as-is (within 1 0 (m .master)) & as-is (all (backupFits 0 (m .master)) (m .backups)) & as-is (distinct (m .backups)) in
+    absurd (nobody (m .master) (b .to a .0 .0 .1))
 
 module _ (r : Node) (k : SizedNode r) where
   abbrev items : List Mastership
@@ -110,19 +111,27 @@ module _ (r : Stream) (k : SizedStream r) where
   abbrev answered : List Response
   answered = r .responses .items
 
+  abbrev tidyRequests : Bool
+  tidyRequests = tidyPlaces queueLength tidyRequest blankRequest asked (r .requests .len)
+
+  abbrev tidyResponses : Bool
+  tidyResponses = tidyPlaces queueLength tidyResponse blankResponse answered (r .responses .len)
+
   abbrev Requests : Type 0
-  Requests = T (tidyPlaces queueLength tidyRequest blankRequest asked (r .requests .len)) × T (queueFits requestFits (requestsAt r))
+  Requests = T tidyRequests × T (queueFits requestFits (requestsAt r))
 
   abbrev Responses : Type 0
-  Responses = T (tidyPlaces queueLength tidyResponse blankResponse answered (r .responses .len)) × T (queueFits responseFits (responsesAt r))
+  Responses = T tidyResponses × T (queueFits responseFits (responsesAt r))
 
   is-queues : Is (queuesTest r) (Requests × Responses)
   unfolding queuesTest requestsTest responsesTest queueFits
-  is-queues = is-queue request queueLength asked (k .requests) (all-any asked) noRequest (r .requests .len) & is-queue response queueLength answered (k .responses) (all-any answered) noResponse (r .responses .len)
+  is-queues =
+      is-queue request queueLength asked (k .requests) (all-any asked) noRequest (r .requests .len)
+      & is-queue response queueLength answered (k .responses) (all-any answered) noResponse (r .responses .len)
 
-  is-tidy-stream : Is (tidyStream r) (T (tidyPlaces queueLength tidyRequest blankRequest asked (r .requests .len)) × T (tidyPlaces queueLength tidyResponse blankResponse answered (r .responses .len)))
+  is-tidy-stream : Is (tidyStream r) (T tidyRequests × T tidyResponses)
   unfolding tidyStream
-  is-tidy-stream = as-is (tidyPlaces queueLength tidyRequest blankRequest asked (r .requests .len)) & as-is (tidyPlaces queueLength tidyResponse blankResponse answered (r .responses .len))
+  is-tidy-stream = as-is tidyRequests & as-is tidyResponses
 
   short : {B : Type 0} (tidy blank : B → Bool) (l : List B) (len : ℕ) → T (tidyPlaces queueLength tidy blank l len) → len ≤ queueLength
   unfolding tidyPlaces
@@ -135,8 +144,10 @@ module _ (r : Stream) (k : SizedStream r) where
     shut-same : Requests × Responses → shutTest r id term ≡ shut
     unfolding shutTest
     shut-same q =
-        let a = empty-held request queueLength asked (k .requests) (all-any asked) noRequest (r .requests .len) (short tidyRequest blankRequest asked (r .requests .len) (q .0 .0)) in
-        let b = empty-held response queueLength answered (k .responses) (all-any answered) noResponse (r .responses .len) (short tidyResponse blankResponse answered (r .responses .len) (q .1 .0)) in
+        let few = short tidyRequest blankRequest asked (r .requests .len) (q .0 .0) in
+        let few′ = short tidyResponse blankResponse answered (r .responses .len) (q .1 .0) in
+        let a = empty-held request queueLength asked (k .requests) (all-any asked) noRequest (r .requests .len) few in
+        let b = empty-held response queueLength answered (k .responses) (all-any answered) noResponse (r .responses .len) few′ in
         λ i. eqb (r .sent .0) 0 && sym a i && sym b i && eqb id 0 && eqb term 0
 
     abbrev Numbers : Type 0
@@ -145,10 +156,12 @@ module _ (r : Stream) (k : SizedStream r) where
     is-numbers : Is (leb (r .sent .0) topTerm && leb id topId && leb term topTerm) Numbers
     is-numbers = is-le (r .sent .0) topTerm & is-le id topId & is-le term topTerm
 
-    pub is-stream : (running : Bool) → Is (streamTest running r id term) (T (tidyStream r) × (T (streamFits (r .opened) (r .sent .0) (requestsAt r) (responsesAt r) id term) × T (running || not (r .opened))))
+    pub is-stream : (running : Bool) → Is (streamTest running r id term)
+        (T (tidyStream r) × (T (streamFits (r .opened) (r .sent .0) (requestsAt r) (responsesAt r) id term) × T (running || not (r .opened))))
     unfolding streamTest streamFits
     is-stream running =
-        let spec = is-le (r .sent .0) topTerm & as-is (queueFits requestFits (requestsAt r)) & as-is (queueFits responseFits (responsesAt r)) & is-le id topId & is-le term topTerm & as-is (r .opened || shut) in
+        let spec = is-le (r .sent .0) topTerm & as-is (queueFits requestFits (requestsAt r)) & as-is (queueFits responseFits (responsesAt r))
+        & is-le id topId & is-le term topTerm & as-is (r .opened || shut) in
         is-map
         (λ t. let q = t .0 .1 in let n = t .0 .0 in (is-tidy-stream .from (q .0 .0, q .1 .0), (spec .from (((((n .0 .0, q .0 .1), q .1 .1), n .0 .1), n .1), t .1 .1), t .1 .0)))
         (λ h. let a = is-tidy-stream .to (h .0) in let b = spec .to (h .1 .0) in let c = b .0 .0 .0 in
@@ -163,7 +176,8 @@ module _ (r : Stream) (k : SizedStream r) where
         let none′ = is-none response queueLength answered (k .responses) (all-any answered) noResponse (r .responses .len) in
         let all-asked = as-is (all blankRequest asked) & is-eq (r .requests .len) 0 in
         let all-answered = as-is (all blankResponse answered) & is-eq (r .responses .len) 0 in
-        let spec = is-not (r .opened) & is-eq (r .sent .0) 0 & as-is (all blankRequest asked) & is-eq (r .requests .len) 0 & as-is (all blankResponse answered) & is-eq (r .responses .len) 0 in
+        let spec = is-not (r .opened) & is-eq (r .sent .0) 0 & as-is (all blankRequest asked) & is-eq (r .requests .len) 0
+        & as-is (all blankResponse answered) & is-eq (r .responses .len) 0 in
         let test = is-eq (r .sent .0) 0 & is-eq (r .requests .len) 0 & is-eq (r .responses .len) 0 & is-eq id 0 & is-eq term 0 in
         is-map
         (λ t. let q = t .0 .1 in let s = test .to (t .1 .1) in

@@ -31,6 +31,7 @@ fn core_fits(count: u8, running: bool, core: Core) -> bool
     false
 }
 
+// What the state holds is in the rules' range, and unused places and rows above N are blank. N is a number of 1 to 8.
 pub fn in_range(s: State) -> bool
     ensures { λ r. ⌜ r ≡ stateFits s ⌝ }
 {

@@ -19,7 +19,8 @@ use state::Node;
 use state::Stream;
 use state::Wire;
 
-fn plain(code: u8, body: Body) -> Moved
+// The body stays as it is, or was changed, and no write was accepted.
+pub fn plain(code: u8, body: Body) -> Moved
     ensures { λ r. ⌜ r ≡ plain code body ⌝ }
 {
     Moved {

@@ -25,15 +25,39 @@ ids-fit-requires c κs = search needs
 
 returns-2 : tie.Need-returns-2
 unfolding coreTest
-returns-2 c = simp (le-leb _ _ (c .before .before .before .before .before .before .before .if1 .left), told (c .before .before .before .before .before .before .service-fits .ensures) (c .before .before .before .before .before .if2 .taken), told (c .before .before .before .before .nodes-fit .ensures) (c .before .before .before .if3 .taken), told (c .before .before .streams-fit .ensures) (c .before .if4 .taken)) (c .ids-fit .ensures)
+returns-2 c =
+    let streams = c .before .before in
+    let nodes = streams .before .before in
+    let service = nodes .before .before in
+    simp (
+      le-leb _ _ (service .before .if1 .left),
+      told (service .service-fits .ensures) (nodes .before .if2 .taken),
+      told (nodes .nodes-fit .ensures) (streams .before .if3 .taken),
+      told (streams .streams-fit .ensures) (c .before .if4 .taken),
+    )
+    (c .ids-fit .ensures)
 
 returns-3 : tie.Need-returns-3
 unfolding coreTest
-returns-3 c = simp (le-leb _ _ (c .before .before .before .before .before .before .if1 .left), told (c .before .before .before .before .before .service-fits .ensures) (c .before .before .before .before .if2 .taken), told (c .before .before .before .nodes-fit .ensures) (c .before .before .if3 .taken), told (c .before .streams-fit .ensures) (c .if4 .left))
+returns-3 c =
+    let nodes = c .before .before .before in
+    let service = nodes .before .before in
+    simp (
+      le-leb _ _ (service .before .if1 .left),
+      told (service .service-fits .ensures) (nodes .before .if2 .taken),
+      told (nodes .nodes-fit .ensures) (c .before .before .if3 .taken),
+      told (c .before .streams-fit .ensures) (c .if4 .left),
+    )
 
 returns-4 : tie.Need-returns-4
 unfolding coreTest
-returns-4 c = simp (le-leb _ _ (c .before .before .before .before .if1 .left), told (c .before .before .before .service-fits .ensures) (c .before .before .if2 .taken), told (c .before .nodes-fit .ensures) (c .if3 .left))
+returns-4 c =
+    let service = c .before .before .before in
+    simp (
+      le-leb _ _ (service .before .if1 .left),
+      told (service .service-fits .ensures) (c .before .before .if2 .taken),
+      told (c .before .nodes-fit .ensures) (c .if3 .left),
+    )
 
 returns-5 : tie.Need-returns-5
 unfolding coreTest

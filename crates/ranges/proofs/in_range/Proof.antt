@@ -28,14 +28,17 @@ returns : tie.Need-returns
 unfolding stateTest
 returns c =
     let start = c .before .before .before .before .before .before .before in
-    let e : c .history-fits .result ≡ stateTest (start .args .s) = simp (told (c .before .before .before .before .is-node .ensures) (c .before .before .before .if1 .taken), told (c .before .before .core-fits .ensures) (c .before .if2 .taken)) (c .history-fits .ensures) in
+    let core = c .before .before in
+    let count = told (core .before .before .is-node .ensures) (core .before .if1 .taken) in
+    let e : c .history-fits .result ≡ stateTest (start .args .s) = simp (count, told (core .core-fits .ensures) (c .before .if2 .taken)) (c .history-fits .ensures) in
     e ∙ same start
 
 returns-2 : tie.Need-returns-2
 unfolding stateTest
 returns-2 c =
     let start = c .before .before .before .before .before .before in
-    let e : false ≡ stateTest (start .args .s) = simp (told (c .before .before .before .is-node .ensures) (c .before .before .if1 .taken), told (c .before .core-fits .ensures) (c .if2 .left)) in
+    let count = told (c .before .before .before .is-node .ensures) (c .before .before .if1 .taken) in
+    let e : false ≡ stateTest (start .args .s) = simp (count, told (c .before .core-fits .ensures) (c .if2 .left)) in
     e ∙ same start
 
 returns-3 : tie.Need-returns-3

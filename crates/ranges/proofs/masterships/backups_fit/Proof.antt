@@ -45,22 +45,25 @@ loop-again : tie.Need-loop-again Inv-loop μ-loop
 loop-again c =
     let turn = c .before .before .before .before in
     let a = turn .before .before .args in
-    (omega arith, each-more (backupPlace (a .count) (a .t2)) (turn .loop .i) (turn .loop .inv .1) (told (c .before .backup-fits .ensures) (c .if2 .taken)))
+    let p = backupPlace (a .count) (a .t2) in
+    (omega arith, each-more p (turn .loop .i) (turn .loop .inv .1) (told (c .before .backup-fits .ensures) (c .if2 .taken)))
 
 returns-2 : tie.Need-returns-2 Inv-loop μ-loop
 unfolding backupsTest
 returns-2 c =
     let turn = c .before .before .before .before in
     let a = turn .before .before .args in
-    simp (le-leb _ _ (turn .before .if1 .left), each-not (backupPlace (a .count) (a .t2)) 7 (turn .loop .i) (omega arith) (told (c .before .backup-fits .ensures) (c .if2 .left)))
+    let p = backupPlace (a .count) (a .t2) in
+    simp (le-leb _ _ (turn .before .if1 .left), each-not p 7 (turn .loop .i) (omega arith) (told (c .before .backup-fits .ensures) (c .if2 .left)))
 
 returns-3 : tie.Need-returns-3 Inv-loop μ-loop
 unfolding backupsTest
 returns-3 c =
     let turn = c .before in
     let a = turn .before .before .args in
+    let p = backupPlace (a .count) (a .t2) in
     let n : turn .loop .i ≡ 7 = omega arith in
-    simp (le-leb _ _ (turn .before .if1 .left)) (sym (turn .loop .inv .1) ∙ ap (λ (k : ℕ). each k (backupPlace (a .count) (a .t2))) n)
+    simp (le-leb _ _ (turn .before .if1 .left)) (sym (turn .loop .inv .1) ∙ ap (λ (k : ℕ). each k p) n)
 
 pub backups-fit-spec : {M : Type 1} → statement M
 backups-fit-spec =

@@ -39,7 +39,8 @@ returns c =
     let turn = c .before .before .before .before .before in
     let a = turn .before .args in
     let n = ids (turn .before) in
-    sym (before-here (a .id .0) (column idAt (a .count) (a .t2 .ids)) (turn .loop .i) (turn .loop .inv .1) (omega arith) (column-at idAt (a .count) (turn .loop .i) (a .t2 .ids) _ (omega arith) ∙ c .if1 .taken))
+    let e = column-at idAt (a .count) (turn .loop .i) (a .t2 .ids) (record { 0 = 0 }) (omega arith) in
+    sym (before-here (a .id .0) (column idAt (a .count) (a .t2 .ids)) (turn .loop .i) (turn .loop .inv .1) (omega arith) (e ∙ c .if1 .taken))
 
 add-i : tie.Need-add-i Inv-loop μ-loop
 add-i c = search needs
@@ -52,7 +53,8 @@ loop-again c =
     let turn = c .before .before .before .before .before in
     let a = turn .before .args in
     let n = ids (turn .before) in
-    (omega arith, before-on (a .id .0) (column idAt (a .count) (a .t2 .ids)) (turn .loop .i) (turn .loop .inv .1) (omega arith) (λ e. c .if1 .left (sym (column-at idAt (a .count) (turn .loop .i) (a .t2 .ids) _ (omega arith)) ∙ e)))
+    let e = column-at idAt (a .count) (turn .loop .i) (a .t2 .ids) (record { 0 = 0 }) (omega arith) in
+    (omega arith, before-on (a .id .0) (column idAt (a .count) (a .t2 .ids)) (turn .loop .i) (turn .loop .inv .1) (omega arith) (λ q. c .if1 .left (sym e ∙ q)))
 
 returns-2 : tie.Need-returns-2 Inv-loop μ-loop
 returns-2 c =

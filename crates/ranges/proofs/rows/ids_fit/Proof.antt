@@ -42,22 +42,25 @@ loop-again : tie.Need-loop-again Inv-loop μ-loop
 loop-again c =
     let turn = c .before .before .before .before in
     let a = turn .before .args in
-    (omega arith, each-more (idPlace (a .count) (a .t2)) (turn .loop .i) (turn .loop .inv .1) (told (c .before .id-fits .ensures) (c .if1 .taken)))
+    let p = idPlace (a .count) (a .t2) in
+    (omega arith, each-more p (turn .loop .i) (turn .loop .inv .1) (told (c .before .id-fits .ensures) (c .if1 .taken)))
 
 returns : tie.Need-returns Inv-loop μ-loop
 unfolding idsTest
 returns c =
     let turn = c .before .before .before .before in
     let a = turn .before .args in
-    sym (each-not (idPlace (a .count) (a .t2)) (a .count) (turn .loop .i) (omega arith) (told (c .before .id-fits .ensures) (c .if1 .left)))
+    let p = idPlace (a .count) (a .t2) in
+    sym (each-not p (a .count) (turn .loop .i) (omega arith) (told (c .before .id-fits .ensures) (c .if1 .left)))
 
 returns-2 : tie.Need-returns-2 Inv-loop μ-loop
 unfolding idsTest
 returns-2 c =
     let turn = c .before in
     let a = turn .before .args in
+    let p = idPlace (a .count) (a .t2) in
     let n : turn .loop .i ≡ a .count = omega arith in
-    sym (turn .loop .inv .1) ∙ ap (λ (k : ℕ). each k (idPlace (a .count) (a .t2))) n
+    sym (turn .loop .inv .1) ∙ ap (λ (k : ℕ). each k p) n
 
 pub ids-fit-spec : {M : Type 1} → statement M
 ids-fit-spec =

@@ -43,22 +43,25 @@ loop-again : tie.Need-loop-again Inv-loop μ-loop
 loop-again c =
     let turn = c .before .before .before .before in
     let a = turn .before .args in
-    (omega arith, each-more (place (nodeTest (a .count)) blankNodeTest pastNode (a .t2 .nodes) (a .count)) (turn .loop .i) (turn .loop .inv .1) (told (c .before .node-place-fits .ensures) (c .if1 .taken)))
+    let p = place (nodeTest (a .count)) blankNodeTest pastNode (a .t2 .nodes) (a .count) in
+    (omega arith, each-more p (turn .loop .i) (turn .loop .inv .1) (told (c .before .node-place-fits .ensures) (c .if1 .taken)))
 
 returns : tie.Need-returns Inv-loop μ-loop
 unfolding nodesTest
 returns c =
     let turn = c .before .before .before .before in
     let a = turn .before .args in
-    sym (each-not (place (nodeTest (a .count)) blankNodeTest pastNode (a .t2 .nodes) (a .count)) 8 (turn .loop .i) (omega arith) (told (c .before .node-place-fits .ensures) (c .if1 .left)))
+    let p = place (nodeTest (a .count)) blankNodeTest pastNode (a .t2 .nodes) (a .count) in
+    sym (each-not p 8 (turn .loop .i) (omega arith) (told (c .before .node-place-fits .ensures) (c .if1 .left)))
 
 returns-2 : tie.Need-returns-2 Inv-loop μ-loop
 unfolding nodesTest
 returns-2 c =
     let turn = c .before in
     let a = turn .before .args in
+    let p = place (nodeTest (a .count)) blankNodeTest pastNode (a .t2 .nodes) (a .count) in
     let n : turn .loop .i ≡ 8 = omega arith in
-    sym (turn .loop .inv .1) ∙ ap (λ (k : ℕ). each k (place (nodeTest (a .count)) blankNodeTest pastNode (a .t2 .nodes) (a .count))) n
+    sym (turn .loop .inv .1) ∙ ap (λ (k : ℕ). each k p) n
 
 pub nodes-fit-spec : {M : Type 1} → statement M
 nodes-fit-spec =
