@@ -3,6 +3,7 @@
 use random::Random;
 use reference::codes::{Outcome, Refusal};
 use reference::kinds::*;
+use reference::limits::MOST_NODES;
 use reference::State;
 
 use crate::Step;
@@ -12,6 +13,8 @@ use crate::Step;
 pub struct Habits {
     /// The weight of each kind; place 0 is for kinds that do not exist.
     pub kinds: [usize; 14],
+    /// Only so many nodes do more than learn.
+    pub active: usize,
     /// Percentage of the steps not allowed that the walk keeps.
     pub refused: usize,
     /// Percentage of the steps with any byte as their node.
@@ -20,18 +23,28 @@ pub struct Habits {
 
 impl Habits {
     /// Controllers that come, win the switch, write and go.
-    pub const LIFE_CYCLE: Habits =
-        Habits { kinds: [0, 6, 4, 30, 20, 20, 20, 20, 8, 3, 20, 20, 1, 8], refused: 15, strangers: 0 };
+    pub const LIFE_CYCLE: Habits = Habits {
+        kinds: [0, 20, 10, 150, 100, 100, 100, 100, 40, 10, 100, 100, 1, 40],
+        active: MOST_NODES,
+        refused: 15,
+        strangers: 0,
+    };
 
     /// The life cycle with some kinds rare, frequent or left out, so that queues
     /// fill that are seldom emptied.
     pub fn drawn(random: &mut Random) -> Habits {
         let mut habits = Habits::LIFE_CYCLE;
         for _ in 0..random.below(5) {
-            habits.kinds[random.between(1, 13)] = random.pick(&[0, 1, 5, 50, 200]);
+            habits.kinds[random.between(1, 13)] = random.pick(&[0, 2, 20, 200, 800]);
+        }
+        if random.percent(20) {
+            for kind in [RECEIVE_UPDATE, RECEIVE_WRITE, SHUTDOWN] {
+                habits.kinds[usize::from(kind)] /= 50;
+            }
         }
         habits.kinds[usize::from(JOIN)] += 1;
-        habits.kinds[0] = random.pick(&[0, 0, 1]);
+        habits.kinds[0] = random.pick(&[0, 0, 5]);
+        habits.active = random.pick(&[1, 2, 2, 3, 4, MOST_NODES]);
         habits.refused = random.pick(&[0, 5, 50]);
         habits.strangers = random.pick(&[0, 0, 1]);
         habits
@@ -53,7 +66,9 @@ impl Habits {
         if random.percent(self.strangers) {
             return (kind, random.byte());
         }
-        let node = random.between(1, usize::from(nodes)) as u8;
+        let nodes = usize::from(nodes);
+        let most = if kind == LEARN { nodes } else { nodes.min(self.active) };
+        let node = random.between(1, most) as u8;
         (kind, if kind == SHUTDOWN || kind == STARTUP { 0 } else { node })
     }
 }

@@ -1,1 +1,4 @@
+pub mod Public
+pub mod Settling
 pub mod Kinds
+pub mod Stepping

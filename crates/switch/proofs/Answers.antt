@@ -1,10 +1,10 @@
 -- The answer of any rule, by its tests, and what a step that is done says of them. Assumes nothing.
-use mathlib.Core.Path.{_≡_, refl, sym, ap, _∙_}
+use mathlib.Core.Path.{_≡_, refl, sym, _∙_}
 use mathlib.Core.Bool.{Bool, true, false, cond}
 use Prim.Native.Nat.{ℕ}
 use native.Mathlib.Omega.{arith}
 use Rattle.rules.specs.Codes.{stepDone, notAllowed, termsSpent, historyFull, queueFull}
-use Rattle.rules.specs.Part.{Rule, decide, need, Out, done}
+use Rattle.rules.specs.Part.{Rule, decide, need, done}
 use Rattle.state.specs.Reads.{answerOf}
 
 -- All tests of the rule hold.

@@ -1,7 +1,7 @@
 -- For who steps: an answer of 0 gives what the effect asks for, and the effect sees neither whether the switch runs nor how long the history is.
 -- Assumes nothing.
 use mathlib.Core.Path.{_≡_, refl, sym, ap, _∙_}
-use mathlib.Core.Bool.{Bool, true, false, not, cond, _&&_}
+use mathlib.Core.Bool.{Bool, true, false, not, cond}
 use mathlib.Core.List.{List, [], _∷_}
 use Prim.Native.Nat.{ℕ, _-_}
 use lib.ListN.{getD}
@@ -18,7 +18,7 @@ use Rattle.switch.specs.declared.Handled.{Handled}
 use Rattle.switch.specs.Asks.{AtWire, Tells, AtStream, CanWrite}
 use Rattle.switch.specs.Handled.{storeHandled}
 use Rattle.switch.proofs.Answers.{clear}
-use Rattle.switch.proofs.Waiting.{ready}
+use Rattle.switch.proofs.Waiting.{three, running-too, message}
 
 -- ---- 9, 10
 
@@ -35,7 +35,7 @@ module _ (count n : ℕ) (running : Bool) (streams : List Stream) (claims : Clai
   unfolding handleUpdateRule
   update-tells h e =
       let v = toldOf count n running streams claims in
-      let runs = ready running (getD (v .opens) (n - 1) false) (empty (v .requests)) (isUpdate (first noRequest (v .requests) .message)) (clear (handleUpdateRule n) v e .allowed) .runs in
+      let runs = three running (getD (v .opens) (n - 1) false) (empty (v .requests)) (isUpdate (first noRequest (v .requests) .message)) (clear (handleUpdateRule n) v e .allowed) .0 in
       record { at = h; goes = ap (λ (b : Bool). answerOf (decide (handleUpdateRule n) (toldOf count n b streams claims))) (sym runs) ∙ e }
 
   pub update-effect : handleUpdateRule n .effect (toldOf count n true streams claims) ≡ handleUpdateRule n .effect (toldOf count n running streams claims)
@@ -50,12 +50,7 @@ module _ (count n : ℕ) (running : Bool) (stream : Stream) (claims : Claims) (w
   write-can h e =
       let v = servedOf count n running stream claims writes in
       let tests = clear (handleWriteRule n) v e in
-      let fits = isWrite (first noRequest (v .requests) .message) in
-      let runs = ready running (stream .opened) (empty (v .requests)) fits (tests .allowed) .runs in
-      record {
-        head = record { at = h; allowed = ap (λ (b : Bool). b && stream .opened && not (empty (v .requests)) && fits) (sym runs) ∙ tests .allowed };
-        roomy = tests .queuesLeft;
-      }
+      record { head = record { at = h; allowed = running-too running stream (isWrite (message stream)) (tests .allowed) }; roomy = tests .queuesLeft }
 
   pub write-effect : handleWriteRule n .effect (servedOf count n true stream claims 0) ≡ handleWriteRule n .effect (servedOf count n running stream claims writes)
   unfolding handleWriteRule accepts

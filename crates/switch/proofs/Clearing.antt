@@ -1,6 +1,6 @@
 -- Closing one stream after the other clears the wire. Assumes nothing.
-use mathlib.Core.Path.{_≡_, refl, sym, ap, ap₂, _∙_}
-use mathlib.Core.Bool.{Bool, true, false}
+use mathlib.Core.Path.{_≡_, refl, sym, ap, _∙_}
+use mathlib.Core.Bool.{false}
 use mathlib.Core.List.{List, [], _∷_, map}
 use Prim.Native.Nat.{ℕ, zero, suc, _+_, _-_}
 use native.Mathlib.Numerals.{add-one}
@@ -12,7 +12,7 @@ use Rattle.state.specs.Stores.{packWire}
 use Rattle.state.specs.declared.Wire.{Wire}
 use Rattle.switch.specs.Does.{clearedAt}
 use Rattle.switch.proofs.Storing.{Sized}
-use Rattle.switch.proofs.Closing.{without, wire-without}
+use Rattle.switch.proofs.Closing.{wire-without}
 
 module _ {A : Type 0} (x : A) where
   -- x at the first k places

@@ -1,7 +1,6 @@
 -- Closing a stream: what the code reads is what the rule reads, and its stores are what the rule writes. Assumes nothing.
 use mathlib.Core.Path.{_≡_, refl, sym, ap, ap₂, _∙_}
-use mathlib.Core.Logic.{_≢_}
-use mathlib.Core.Bool.{Bool, true, false, not, cond, _||_}
+use mathlib.Core.Bool.{Bool, true, false}
 use mathlib.Core.List.{List, []}
 use Prim.Native.Nat.{ℕ, _-_, _≤_, _<_}
 use native.Mathlib.Decide.{ℕ-discrete}
@@ -11,16 +10,16 @@ use lib.Seq.{getD-set-same, getD-set-other}
 use Rattle.rules.specs.Limits.{mostNodes}
 use Rattle.rules.specs.Codes.{stepDone}
 use Rattle.rules.specs.State as S
-use Rattle.rules.specs.Part.{Rule, decide}
-use Rattle.rules.specs.Parts.{Told, Telling}
-use Rattle.rules.specs.Election.{roomOpen, tellAll}
+use Rattle.rules.specs.Part.{decide}
+use Rattle.rules.specs.Parts.{Told}
+use Rattle.rules.specs.Election.{roomOpen}
 use Rattle.rules.specs.Rules.{changes, idsLeft, opensLeft, responsesLeft, closeRoom, closed, closeRule}
 use Rattle.seqs.specs.Columns.{column, column-at, column-set}
 use Rattle.seqs.specs.Tables.{table}
 use Rattle.parts.specs.Ordered.{ordered-requests, ordered-responses}
 use Rattle.parts.specs.declared.ElectionId.{ElectionId}
 use Rattle.state.specs.Hold.{holdWire, packStreams, packClaims, openAt, responsesAt, idAt}
-use Rattle.state.specs.Order.{OrderedWire, OrderedStream, pastStream}
+use Rattle.state.specs.Order.{OrderedStream, pastStream}
 use Rattle.state.specs.Reads.{answerOf, toldOf}
 use Rattle.state.specs.Stores.{packWire, storeTelling}
 use Rattle.state.specs.declared.Stream.{Stream}
@@ -30,7 +29,7 @@ use Rattle.switch.specs.Asks.{OrderedRows, AtWire}
 use Rattle.switch.specs.Does.{closedStream, clearedAt, withClaim, tellRow}
 use Rattle.switch.proofs.Answers.{answer-by, byTests, clear}
 use Rattle.switch.proofs.Storing.{put, shut, lands-shut, blank-back, store-row, store-claim, sized, rows-eight}
-use Rattle.switch.proofs.Telling.{withResponses, all-told}
+use Rattle.switch.proofs.Telling.{all-told}
 
 -- The wire with node n's stream closed and nobody told.
 abbrev pub without : ℕ → S.Wire → S.Wire
@@ -48,7 +47,7 @@ wire-without n w =
 ordered-closed : OrderedStream closedStream
 ordered-closed = record { requests = ordered-requests [] (omega arith); responses = ordered-responses [] (omega arith) }
 
-module _ (count n : ℕ) (streams : List Stream) (claims : Claims) (h : AtWire count n streams claims) where
+module _ {count n : ℕ} {streams : List Stream} {claims : Claims} (h : AtWire count n streams claims) where
   abbrev v : Told
   v = toldOf count n true streams claims
 
@@ -60,6 +59,10 @@ module _ (count n : ℕ) (streams : List Stream) (claims : Claims) (h : AtWire c
 
   abbrev idsThen : List ElectionId
   idsThen = set (claims .ids) (n - 1) (record { 0 = 0 })
+
+  -- the switch's master changes
+  abbrev pub shifts : Bool
+  shifts = changes (column idAt count (claims .ids)) (column idAt count idsThen)
 
   pub below : n - 1 < count
   below = let a = h .from in let b = h .upto in omega arith
@@ -98,14 +101,14 @@ module _ (count n : ℕ) (streams : List Stream) (claims : Claims) (h : AtWire c
 
   -- ---- room
 
-  pub change-is : (b : Bool) → changes (column idAt count (claims .ids)) (column idAt count idsThen) ≡ b → changes (v .ids) (idsLeft n v) ≡ b
+  pub change-is : (b : Bool) → shifts ≡ b → changes (v .ids) (idsLeft n v) ≡ b
   change-is b e = ap₂ changes (sym ids-now) (sym ids-then) ∙ e
 
-  pub room-quiet : changes (column idAt count (claims .ids)) (column idAt count idsThen) ≡ false → closeRoom n v ≡ true
+  pub room-quiet : shifts ≡ false → closeRoom n v ≡ true
   unfolding closeRoom
   room-quiet e = simp (change-is false e)
 
-  pub room-told : changes (column idAt count (claims .ids)) (column idAt count idsThen) ≡ true → closeRoom n v ≡ roomOpen (column openAt count others) (column responsesAt count others)
+  pub room-told : shifts ≡ true → closeRoom n v ≡ roomOpen (column openAt count others) (column responsesAt count others)
   unfolding closeRoom
   room-told e = simp (change-is true e) (ap₂ roomOpen (sym opens-then) (sym responses-then))
 
@@ -124,11 +127,11 @@ module _ (count n : ℕ) (streams : List Stream) (claims : Claims) (h : AtWire c
   without-is : clearedAt n streams claims ≡ packWire (without n w)
   without-is = ap₂ (clearedAt n) (sym (h .wire .streams-same)) (sym (h .wire .claims-same)) ∙ wire-without n w
 
-  pub closed-quiet : changes (column idAt count (claims .ids)) (column idAt count idsThen) ≡ false → clearedAt n streams claims ≡ storeTelling n (closed n v) count streams claims
+  pub closed-quiet : shifts ≡ false → clearedAt n streams claims ≡ storeTelling n (closed n v) count streams claims
   unfolding closed responsesLeft storeTelling
   closed-quiet e = without-is ∙ simp (change-is false e)
 
-  pub closed-told : changes (column idAt count (claims .ids)) (column idAt count idsThen) ≡ true → closeRoom n v ≡ true
+  pub closed-told : shifts ≡ true → closeRoom n v ≡ true
       → record { streams = table mostNodes (tellRow (column openAt count others) (column idAt count idsThen) others); claims = withClaim n (record { 0 = 0 }) (record { 0 = 0 }) claims }
       ≡ storeTelling n (closed n v) count streams claims
   unfolding closed idsLeft opensLeft responsesLeft storeTelling packClaims

@@ -1,19 +1,17 @@
 -- A store to one row of the streams and of the claims is what the rules write of one node. Assumes nothing.
-use mathlib.Core.Path.{_≡_, refl, sym, ap, ap₂, _∙_}
+use mathlib.Core.Path.{_≡_, refl, sym, ap, _∙_}
 use mathlib.Core.Logic.{_≢_}
-use mathlib.Core.Bool.{Bool, true, false}
+use mathlib.Core.Bool.{true, false}
 use mathlib.Core.List.{List, [], _∷_}
-use Prim.Native.Nat.{ℕ, zero, suc, _+_, _-_, _≤_, _<_}
+use Prim.Native.Nat.{ℕ, zero, suc, _-_, _≤_, _<_}
 use native.Mathlib.Omega.{arith}
-use lib.ListN.{length, getD, set, length-set}
+use lib.ListN.{length, getD, set}
 use lib.Seq.{getD-set-same, getD-set-other}
 use Rattle.rules.specs.Limits.{mostNodes}
 use Rattle.rules.specs.State as S
 use Rattle.rules.specs.Parts.{Telling, Told, tellPart}
 use Rattle.seqs.specs.Columns.{column, length-column}
 use Rattle.seqs.specs.Tables.{table-get, table-set, table-length}
-use Rattle.parts.specs.declared.ElectionId.{ElectionId}
-use Rattle.parts.specs.declared.Term.{Term}
 use Rattle.state.specs.Hold.{holdWire, packStream, packStreams, packClaims, streamRow, idRow, termRow, openAt, sentAt, requestsAt, responsesAt, idAt, termAt}
 use Rattle.state.specs.Order.{OrderedWire, pastStream}
 use Rattle.state.specs.declared.Stream.{Stream}

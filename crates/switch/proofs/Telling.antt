@@ -1,12 +1,12 @@
 -- Telling the open streams, row by row, is what the rules do to all responses, where every open stream has room. Assumes nothing.
-use mathlib.Core.Path.{_≡_, refl, sym, ap, ap₂, _∙_}
+use mathlib.Core.Path.{_≡_, refl, sym, ap, _∙_}
 use mathlib.Core.Bool.{Bool, true, false, not, cond, _&&_, _||_}
 use mathlib.Core.List.{List, [], _∷_}
-use Prim.Native.Nat.{ℕ, zero, suc, _+_, _-_, _≤_, _<_}
+use Prim.Native.Nat.{ℕ, zero, suc, _+_, _<_}
 use native.Mathlib.Nat.{add-zero, add-suc, suc-add}
 use native.Mathlib.Omega.{arith}
-use lib.Dec.{T, leb, ltb, ltb→lt}
-use lib.ListN.{length, getD, set}
+use lib.Dec.{ltb→lt}
+use lib.ListN.{length, getD}
 use borrow.Author.Tests.{lt-leb}
 use Rattle.rules.specs.Limits.{mostNodes, queueLength}
 use Rattle.rules.specs.State as S
@@ -14,14 +14,14 @@ use Rattle.rules.specs.Queues.{push, room}
 use Rattle.rules.specs.Election.{news, tellFrom, tellAll, roomOpen}
 use Rattle.seqs.specs.Padded.{held-padded}
 use Rattle.seqs.specs.Tables.{table, table-of, table-get, table-length}
-use Rattle.parts.specs.Hold.{holdResponse, packResponse, noResponse, holdResponses, packResponses}
+use Rattle.parts.specs.Hold.{holdResponse, packResponse, noResponse, packResponses}
 use Rattle.parts.specs.Ordered.{ordered-responses, push-responses, response-back}
 use Rattle.parts.specs.Queues.{pushResponse}
 use Rattle.state.specs.Hold.{packStream, packStreams, streamRow}
 use Rattle.state.specs.Order.{pastStream}
 use Rattle.state.specs.declared.Stream.{Stream}
 use Rattle.switch.specs.Does.{told, tellRow}
-use Rattle.switch.proofs.Storing.{Sized, row-at}
+use Rattle.switch.proofs.Storing.{row-at}
 
 -- a response goes last in a queue that has room
 pub push-packed : (x : S.Response) (q : List S.Response) → room q ≡ true → pushResponse (packResponses q) (packResponse x) ≡ packResponses (push x q)

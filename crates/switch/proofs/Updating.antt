@@ -1,6 +1,6 @@
 -- Handling an update: what the code reads is what the rule reads, and its stores are what the rule writes. Assumes nothing.
 use mathlib.Core.Path.{_≡_, refl, sym, ap, ap₂, _∙_}
-use mathlib.Core.Bool.{Bool, true, false, not, cond, _&&_}
+use mathlib.Core.Bool.{Bool, true, false, not, _&&_}
 use mathlib.Core.List.{List, []}
 use Prim.Native.Nat.{ℕ, _-_, _≤_, _<_}
 use native.Mathlib.Omega.{arith}
@@ -20,11 +20,8 @@ use Rattle.seqs.specs.Queue.{room-held}
 use Rattle.seqs.specs.Tables.{table}
 use Rattle.parts.specs.Hold.{holdRequests, holdResponses, packRequest, packRequests, packResponse, holdResponse, noResponse, responsesQueue}
 use Rattle.parts.specs.Ordered.{pop-requests}
-use Rattle.parts.specs.Queues.{popRequest}
 use Rattle.parts.specs.declared.ElectionId.{ElectionId}
-use Rattle.parts.specs.declared.Term.{Term}
 use Rattle.parts.specs.declared.Message.the-variants as M
-use Rattle.parts.specs.declared.RequestQueue.{RequestQueue}
 use Rattle.parts.specs.declared.Response.{Response}
 use Rattle.state.specs.Hold.{holdWire, packStream, packStreams, packClaims, streamRow, openAt, requestsAt, responsesAt, idAt}
 use Rattle.state.specs.Order.{pastStream}
@@ -34,14 +31,14 @@ use Rattle.state.specs.declared.Stream.{Stream}
 use Rattle.state.specs.declared.Claims.{Claims}
 use Rattle.state.specs.declared.Wire.{Wire}
 use Rattle.switch.specs.Asks.{AtWire, UpdateAt, HasHead}
-use Rattle.switch.specs.Does.{told, handled, withClaim, tellRow, waiting}
+use Rattle.switch.specs.Does.{told, withoutHead, able, collides, withClaim, tellRow, waiting}
 use Rattle.switch.proofs.Answers.{answer-by, byTests, clear}
 use Rattle.switch.proofs.Storing.{put, lands, store-row, store-claim, sized, row-at}
 use Rattle.switch.proofs.Telling.{push-packed, all-told}
-use Rattle.switch.proofs.Waiting.{Ready, ready, update-waits, no-update-waits}
+use Rattle.switch.proofs.Waiting.{Ready, ready, running-too, message, update-waits, no-update-waits}
 use Rattle.switch.proofs.Closing.{below, open-at, close-answer}
 
-module _ (count n : ℕ) (streams : List Stream) (claims : Claims) (h : AtWire count n streams claims) where
+module _ {count n : ℕ} {streams : List Stream} {claims : Claims} (h : AtWire count n streams claims) where
   abbrev row : Stream
   row = getD streams (n - 1) pastStream
 
@@ -49,29 +46,19 @@ module _ (count n : ℕ) (streams : List Stream) (claims : Claims) (h : AtWire c
 
   pub requests-at : getD (holdWire count streams claims .requests) (n - 1) [] ≡ holdRequests (row .requests)
   unfolding holdWire
-  requests-at = column-at requestsAt count (n - 1) streams pastStream (below count n streams claims h)
+  requests-at = column-at requestsAt count (n - 1) streams pastStream (below h)
 
   responses-at : getD (holdWire count streams claims .responses) (n - 1) [] ≡ holdResponses (row .responses)
   unfolding holdWire
-  responses-at = column-at responsesAt count (n - 1) streams pastStream (below count n streams claims h)
+  responses-at = column-at responsesAt count (n - 1) streams pastStream (below h)
 
-  pub update-allowed : (running : Bool) → handleUpdateRule n .allowed (toldOf count n running streams claims)
-      ≡ (running && row .opened && not (empty (holdRequests (row .requests))) && isUpdate (first noRequest (holdRequests (row .requests)) .message))
+  pub update-allowed : (running : Bool) → handleUpdateRule n .allowed (toldOf count n running streams claims) ≡ (able running row && isUpdate (message row))
   unfolding handleUpdateRule
-  update-allowed running = ap₂ (λ (o : Bool) (l : List S.Request). running && o && not (empty l) && isUpdate (first noRequest l .message)) (open-at count n streams claims h) requests-at
+  update-allowed running = ap₂ (λ (o : Bool) (l : List S.Request). running && o && not (empty l) && isUpdate (first noRequest l .message)) (open-at h) requests-at
 
   -- an update that waits may be handled
   pub update-at : (running : Bool) → waiting running row ≡ M.Update → UpdateAt count n streams claims
-  update-at running e =
-      let all = update-waits running row e in
-      let runs = ready running (row .opened) (empty (holdRequests (row .requests))) (isUpdate (first noRequest (holdRequests (row .requests)) .message)) all .runs in
-      record {
-        at = h;
-        allowed =
-            update-allowed true
-            ∙ ap (λ (b : Bool). b && row .opened && not (empty (holdRequests (row .requests))) && isUpdate (first noRequest (holdRequests (row .requests)) .message)) (sym runs)
-            ∙ all;
-      }
+  update-at running e = record { at = h; allowed = update-allowed true ∙ running-too running row (isUpdate (message row)) (update-waits running row e) }
 
   -- ---- the answer
 
@@ -93,7 +80,7 @@ module _ (count n : ℕ) (streams : List Stream) (claims : Claims) (h : AtWire c
   done-roomy e = clear (handleUpdateRule n) (toldOf count n true streams claims) e .queuesLeft
 
 -- An update that may be handled waits at the head of n's requests.
-module _ (count n : ℕ) (streams : List Stream) (claims : Claims) (u : UpdateAt count n streams claims) where
+module _ {count n : ℕ} {streams : List Stream} {claims : Claims} (u : UpdateAt count n streams claims) where
   abbrev h : AtWire count n streams claims
   h = u .at
 
@@ -107,63 +94,71 @@ module _ (count n : ℕ) (streams : List Stream) (claims : Claims) (u : UpdateAt
   r = getD streams (n - 1) pastStream
 
   lt : n - 1 < count
-  lt = below count n streams claims h
+  lt = below h
 
-  can : Ready true (r .opened) (empty (holdRequests (r .requests))) (isUpdate (first noRequest (holdRequests (r .requests)) .message))
-  can = ready true (r .opened) (empty (holdRequests (r .requests))) (isUpdate (first noRequest (holdRequests (r .requests)) .message)) (sym (update-allowed count n streams claims h true) ∙ u .allowed)
+  can : Ready true r
+  can = ready true r (isUpdate (message r)) (sym (update-allowed h true) ∙ u .allowed)
 
   pub has-head : HasHead r
   has-head = record { ordered = h .wire .rows (n - 1) lt; some = can .some }
 
   -- the head is what the rule asks of
   pub head-is : packRequest (first noRequest (holdRequests (r .requests))) ≡ packRequest (asked v)
-  head-is = ap (λ (l : List S.Request). packRequest (first noRequest l)) (sym (requests-at count n streams claims h))
+  head-is = ap (λ (l : List S.Request). packRequest (first noRequest l)) (sym (requests-at h))
 
   -- the ids with its id taken
   abbrev idsThen : List ElectionId
   idsThen = set (claims .ids) (n - 1) (record { 0 = asked v .id })
 
+  -- the claims with its id and term
+  abbrev pub claimsThen : Claims
+  claimsThen = withClaim n (record { 0 = asked v .id }) (record { 0 = asked v .term }) claims
+
+  -- the switch's master changes
+  abbrev pub shifts : Bool
+  shifts = changes (column idAt count (claims .ids)) (column idAt count idsThen)
+
   pub ids-then : column idAt count idsThen ≡ idsWith n v
   unfolding holdWire idsWith
   ids-then = column-set idAt count (n - 1) (claims .ids) (record { 0 = asked v .id })
 
-  pub taken-is : (b : Bool) → taken n (asked v .id) (column idAt count (claims .ids)) ≡ b → taken n (asked v .id) (v .ids) ≡ b
+  pub collides-is : taken n (asked v .id) (column idAt count (claims .ids)) ≡ collides n v
   unfolding holdWire
-  taken-is b e = e
+  collides-is = refl
 
-  -- an id that another node holds closes the stream
-  pub taken-room : taken n (asked v .id) (v .ids) ≡ true → handleUpdateRule n .queuesLeft v ≡ closeRoom n v
+  -- a collision closes the stream
+  pub taken-room : collides n v ≡ true → handleUpdateRule n .queuesLeft v ≡ closeRoom n v
   unfolding handleUpdateRule
   taken-room e = simp e
 
-  pub taken-effect : taken n (asked v .id) (v .ids) ≡ true → handleUpdateRule n .effect v ≡ closed n v
+  pub taken-effect : collides n v ≡ true → handleUpdateRule n .effect v ≡ closed n v
   unfolding handleUpdateRule
   taken-effect e = simp e
 
-  pub free-room : taken n (asked v .id) (v .ids) ≡ false → handleUpdateRule n .queuesLeft v ≡ updateRoom n v
+  pub free-room : collides n v ≡ false → handleUpdateRule n .queuesLeft v ≡ updateRoom n v
   unfolding handleUpdateRule
   free-room e = simp e
 
-  pub free-effect : taken n (asked v .id) (v .ids) ≡ false → handleUpdateRule n .effect v ≡ updated n v
+  pub free-effect : collides n v ≡ false → handleUpdateRule n .effect v ≡ updated n v
   unfolding handleUpdateRule
   free-effect e = simp e
 
   pub close-goes : closeRoom n v ≡ true → answerOf (decide (closeRule n) v) ≡ stepDone
-  close-goes f = close-answer count n streams claims h true true (can .opened) f
+  close-goes f = close-answer h true true (can .opened) f
 
   -- ---- room
 
-  change-is : (b : Bool) → changes (column idAt count (claims .ids)) (column idAt count idsThen) ≡ b → changes (v .ids) (idsWith n v) ≡ b
+  change-is : (b : Bool) → shifts ≡ b → changes (v .ids) (idsWith n v) ≡ b
   unfolding holdWire
   change-is b e = ap (changes (v .ids)) (sym ids-then) ∙ e
 
-  pub room-all : changes (column idAt count (claims .ids)) (column idAt count idsThen) ≡ true → updateRoom n v ≡ roomOpen (column openAt count streams) (column responsesAt count streams)
+  pub room-all : shifts ≡ true → updateRoom n v ≡ roomOpen (column openAt count streams) (column responsesAt count streams)
   unfolding updateRoom holdWire
   room-all e = simp (change-is true e)
 
-  pub room-one : changes (column idAt count (claims .ids)) (column idAt count idsThen) ≡ false → updateRoom n v ≡ room (holdResponses (r .responses))
+  pub room-one : shifts ≡ false → updateRoom n v ≡ room (holdResponses (r .responses))
   unfolding updateRoom
-  room-one e = simp (change-is false e) (ap room (responses-at count n streams claims h))
+  room-one e = simp (change-is false e) (ap room (responses-at h))
 
   pub space : room (holdResponses (r .responses)) ≡ not (leb queueLength (r .responses .len))
   space = room-held noResponse packResponse holdResponse (responsesQueue (r .responses)) (has-head .ordered .responses)
@@ -178,56 +173,56 @@ module _ (count n : ℕ) (streams : List Stream) (claims : Claims) (u : UpdateAt
   row-is = let few : count ≤ 8 = h .wire .few in let k = lt in row-at w streams (h .wire .streams-same) (n - 1) (omega arith)
 
   open-is : getD (w .opens) (n - 1) false ≡ true
-  open-is = open-at count n streams claims h ∙ can .opened
+  open-is = open-at h ∙ can .opened
 
-  handled-is : handled r ≡ packStream true (v .sent) (rest (v .requests)) (getD (w .responses) (n - 1) [])
-  handled-is = λ i. record {
+  without-head-is : withoutHead r ≡ packStream true (v .sent) (rest (v .requests)) (getD (w .responses) (n - 1) [])
+  without-head-is = λ i. record {
     opened = can .opened i;
     sent = row-is i .sent;
-    requests = (pop-requests (r .requests) (has-head .ordered .requests) ∙ ap (λ (l : List S.Request). packRequests (rest l)) (sym (requests-at count n streams claims h))) i;
+    requests = (pop-requests (r .requests) (has-head .ordered .requests) ∙ ap (λ (l : List S.Request). packRequests (rest l)) (sym (requests-at h))) i;
     responses = row-is i .responses;
   }
 
-  claims-are : (responses : List (List S.Response)) → withClaim n (record { 0 = asked v .id }) (record { 0 = asked v .term }) claims ≡ packClaims (put n (took responses) w)
+  claims-are : (responses : List (List S.Response)) → claimsThen ≡ packClaims (put n (took responses) w)
   claims-are responses =
       ap (withClaim n (record { 0 = asked v .id }) (record { 0 = asked v .term })) (sym (h .wire .claims-same))
       ∙ store-claim n (took responses) w (lands count n (took responses) w (sized count streams claims (h .wire)) lt)
 
-  rows-are : set streams (n - 1) (handled r) ≡ packStreams (put n (took (w .responses)) w)
+  rows-are : set streams (n - 1) (withoutHead r) ≡ packStreams (put n (took (w .responses)) w)
   rows-are =
-      ap₂ (λ (l : List Stream) (x : Stream). set l (n - 1) x) (sym (h .wire .streams-same)) handled-is
+      ap₂ (λ (l : List Stream) (x : Stream). set l (n - 1) x) (sym (h .wire .streams-same)) without-head-is
       ∙ store-row n (took (w .responses)) w (lands count n (took (w .responses)) w (sized count streams claims (h .wire)) lt) (getD (w .responses) (n - 1) []) refl (λ i z. refl)
 
   opens-stay : set (w .opens) (n - 1) true ≡ w .opens
   opens-stay = ap (set (w .opens) (n - 1)) (sym open-is) ∙ set-getD (w .opens) (n - 1) false
 
-  opens-then : column openAt count (set streams (n - 1) (handled r)) ≡ set (w .opens) (n - 1) true
+  opens-then : column openAt count (set streams (n - 1) (withoutHead r)) ≡ set (w .opens) (n - 1) true
   unfolding holdWire
-  opens-then = column-set openAt count (n - 1) streams (handled r) ∙ ap (set (column openAt count streams) (n - 1)) (can .opened)
+  opens-then = column-set openAt count (n - 1) streams (withoutHead r) ∙ ap (set (column openAt count streams) (n - 1)) (can .opened)
 
-  roomy : changes (column idAt count (claims .ids)) (column idAt count idsThen) ≡ true → updateRoom n v ≡ true → roomOpen (set (w .opens) (n - 1) true) (w .responses) ≡ true
+  roomy : shifts ≡ true → updateRoom n v ≡ true → roomOpen (set (w .opens) (n - 1) true) (w .responses) ≡ true
   unfolding holdWire
   roomy e f = ap (λ (o : List Bool). roomOpen o (w .responses)) opens-stay ∙ sym (room-all e) ∙ f
 
   -- the master changes, and all are told
-  pub updated-all : changes (column idAt count (claims .ids)) (column idAt count idsThen) ≡ true → updateRoom n v ≡ true
-      → (let next = set streams (n - 1) (handled r) in
-      record { streams = table mostNodes (tellRow (column openAt count next) (column idAt count idsThen) next); claims = withClaim n (record { 0 = asked v .id }) (record { 0 = asked v .term }) claims }
+  pub updated-all : shifts ≡ true → updateRoom n v ≡ true
+      → (let next = set streams (n - 1) (withoutHead r) in
+      record { streams = table mostNodes (tellRow (column openAt count next) (column idAt count idsThen) next); claims = claimsThen }
       ≡ storeTelling n (updated n v) count streams claims)
   unfolding updated idsWith storeTelling packClaims
   updated-all e f =
       let s = sized count streams claims (h .wire) in
-      let next = set streams (n - 1) (handled r) in
+      let next = set streams (n - 1) (withoutHead r) in
       let after = put n (took (w .responses)) w in
       let k : length (after .opens) ≡ length (after .responses) = length-set (w .opens) (n - 1) true ∙ s .opens ∙ sym (s .responses) in
-      ap₂ {C = Wire} (λ (o : List Bool) (i : List ℕ). record { streams = table mostNodes (tellRow o i next); claims = withClaim n (record { 0 = asked v .id }) (record { 0 = asked v .term }) claims }) opens-then ids-then
+      ap₂ {C = Wire} (λ (o : List Bool) (i : List ℕ). record { streams = table mostNodes (tellRow o i next); claims = claimsThen }) opens-then ids-then
       ∙ (λ i. record { streams = all-told after k (roomy e f) next (sym rows-are) i; claims = claims-are (w .responses) i })
       ∙ ap (λ (o : List Bool). packWire (put n (took (tellAll (after .ids) o (w .responses))) w)) opens-stay
       ∙ simp (change-is true e)
 
   -- the master stays, and only n is told
-  pub updated-one : changes (column idAt count (claims .ids)) (column idAt count idsThen) ≡ false → updateRoom n v ≡ true
-      → record { streams = set streams (n - 1) (told (packResponse (news (idsWith n v) n)) (handled r)); claims = withClaim n (record { 0 = asked v .id }) (record { 0 = asked v .term }) claims }
+  pub updated-one : shifts ≡ false → updateRoom n v ≡ true
+      → record { streams = set streams (n - 1) (told (packResponse (news (idsWith n v) n)) (withoutHead r)); claims = claimsThen }
       ≡ storeTelling n (updated n v) count streams claims
   unfolding updated storeTelling
   updated-one e f =
@@ -236,9 +231,9 @@ module _ (count n : ℕ) (streams : List Stream) (claims : Claims) (u : UpdateAt
       let pushed = push (news (idsWith n v) n) q in
       let responses = set (w .responses) (n - 1) pushed in
       let b : n - 1 < length (w .responses) = let k = s .responses in let j = lt in omega arith in
-      let space : room q ≡ true = ap room (responses-at count n streams claims h) ∙ sym (room-one e) ∙ f in
-      let x : told (packResponse (news (idsWith n v) n)) (handled r) ≡ packStream true (v .sent) (rest (v .requests)) pushed =
-      ap (told (packResponse (news (idsWith n v) n))) handled-is
+      let space : room q ≡ true = ap room (responses-at h) ∙ sym (room-one e) ∙ f in
+      let x : told (packResponse (news (idsWith n v) n)) (withoutHead r) ≡ packStream true (v .sent) (rest (v .requests)) pushed =
+      ap (told (packResponse (news (idsWith n v) n))) without-head-is
       ∙ (λ i. record {
         opened = true;
         sent = record { 0 = v .sent };

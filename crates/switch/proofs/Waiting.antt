@@ -2,7 +2,7 @@
 use mathlib.Core.Path.{_≡_, refl, sym, ap, _∙_}
 use mathlib.Core.Logic.{_≢_, ⊎-elim}
 use mathlib.Core.Bool.{Bool, true, false, not, cond, _&&_}
-use mathlib.Core.List.{List, [], _∷_}
+use mathlib.Core.List.{[], _∷_}
 use Prim.Native.Nat.{ℕ}
 use native.Mathlib.Omega.{arith}
 use borrow.Author.Tests.{eq-eqb, ne-eqb}
@@ -20,21 +20,26 @@ use Rattle.parts.proofs.Message.{the-type}
 use Rattle.state.specs.Order.{OrderedStream}
 use Rattle.state.specs.declared.Stream.{Stream}
 use Rattle.switch.specs.Asks.{HasHead}
-use Rattle.switch.specs.Does.{waiting}
+use Rattle.switch.specs.Does.{able, waiting}
 
--- The four tests of Handle update and of Handle write hold.
-pub record Ready (running isOpen none kind : Bool) : Type 0 where
+-- of four tests that hold, the first three
+pub three : (r o e k : Bool) → (r && o && not e && k) ≡ true → (r ≡ true) × (o ≡ true) × (e ≡ false)
+three true true false k z = (refl, refl, refl)
+three true true true k z = let y : _≡_ {A = ℕ} 0 1 = cc in absurd (omega arith)
+three true false e k z = let y : _≡_ {A = ℕ} 0 1 = cc in absurd (omega arith)
+three false o e k z = let y : _≡_ {A = ℕ} 0 1 = cc in absurd (omega arith)
+
+pub record Ready (running : Bool) (s : Stream) : Type 0 where
   pub runs : running ≡ true
-  pub opened : isOpen ≡ true
-  pub some : none ≡ false
-  pub right : kind ≡ true
+  pub opened : s .opened ≡ true
+  pub some : empty (holdRequests (s .requests)) ≡ false
 
-pub ready : (r o e k : Bool) → (r && o && not e && k) ≡ true → Ready r o e k
-ready true true false true z = record { runs = refl; opened = refl; some = refl; right = refl }
-ready true true false false z = let y : _≡_ {A = ℕ} 0 1 = cc in absurd (omega arith)
-ready true true true k z = let y : _≡_ {A = ℕ} 0 1 = cc in absurd (omega arith)
-ready true false e k z = let y : _≡_ {A = ℕ} 0 1 = cc in absurd (omega arith)
-ready false o e k z = let y : _≡_ {A = ℕ} 0 1 = cc in absurd (omega arith)
+module _ (running : Bool) (s : Stream) (kind : Bool) (e : (able running s && kind) ≡ true) where
+  pub ready : Ready running s
+  ready = let t = three running (s .opened) (empty (holdRequests (s .requests))) kind e in record { runs = t .0; opened = t .1; some = t .2 }
+
+  pub running-too : (able true s && kind) ≡ true
+  running-too = ap (λ (b : Bool). able b s && kind) (sym (ready .runs)) ∙ e
 
 -- a request stands at the head of a queue that is not empty
 pub some-waits : (s : Stream) → OrderedStream s → s .requests .len ≢ 0 → HasHead s
@@ -57,43 +62,41 @@ not-write M.Write k e = ⊎-elim (λ z. omega arith) (λ z. omega arith) k
 
 -- ---- what waits
 
+-- what the request at the head is about
+abbrev pub message : Stream → S.Message
+message s = first noRequest (holdRequests (s .requests)) .message
+
 module _ (running : Bool) (s : Stream) where
-  abbrev able : Bool
-  able = running && s .opened && not (empty (holdRequests (s .requests)))
-
-  abbrev message : S.Message
-  message = first noRequest (holdRequests (s .requests)) .message
-
-  pub update-waits : waiting running s ≡ M.Update → (able && isUpdate message) ≡ true
+  pub update-waits : waiting running s ≡ M.Update → (able running s && isUpdate (message s)) ≡ true
   unfolding waiting isUpdate
-  update-waits = go able message
+  update-waits = go (able running s) (message s)
     where
       go : (b : Bool) (k : S.Message) → cond b (packMessage k) M.Nothing ≡ M.Update → (b && isUpdate k) ≡ true
       go true S.update e = refl
       go true S.write e = let z : _≡_ {A = ℕ} 0 1 = cc in absurd (omega arith)
       go false k e = let z : _≡_ {A = ℕ} 0 1 = cc in absurd (omega arith)
 
-  pub no-update-waits : (waiting running s ≡ M.Update → ⊥) → (able && isUpdate message) ≡ false
+  pub no-update-waits : (waiting running s ≡ M.Update → ⊥) → (able running s && isUpdate (message s)) ≡ false
   unfolding waiting isUpdate
-  no-update-waits = go able message
+  no-update-waits = go (able running s) (message s)
     where
       go : (b : Bool) (k : S.Message) → (cond b (packMessage k) M.Nothing ≡ M.Update → ⊥) → (b && isUpdate k) ≡ false
       go true S.update e = absurd (e refl)
       go true S.write e = refl
       go false k e = refl
 
-  pub write-waits : waiting running s ≡ M.Write → (able && isWrite message) ≡ true
+  pub write-waits : waiting running s ≡ M.Write → (able running s && isWrite (message s)) ≡ true
   unfolding waiting isWrite
-  write-waits = go able message
+  write-waits = go (able running s) (message s)
     where
       go : (b : Bool) (k : S.Message) → cond b (packMessage k) M.Nothing ≡ M.Write → (b && isWrite k) ≡ true
       go true S.update e = let z : _≡_ {A = ℕ} 0 1 = cc in absurd (omega arith)
       go true S.write e = refl
       go false k e = let z : _≡_ {A = ℕ} 0 1 = cc in absurd (omega arith)
 
-  pub no-write-waits : (waiting running s ≡ M.Write → ⊥) → (able && isWrite message) ≡ false
+  pub no-write-waits : (waiting running s ≡ M.Write → ⊥) → (able running s && isWrite (message s)) ≡ false
   unfolding waiting isWrite
-  no-write-waits = go able message
+  no-write-waits = go (able running s) (message s)
     where
       go : (b : Bool) (k : S.Message) → (cond b (packMessage k) M.Nothing ≡ M.Write → ⊥) → (b && isWrite k) ≡ false
       go true S.update e = refl

@@ -1,10 +1,10 @@
-// The switch: its master, the telling of the open streams, and the steps of kinds 8 to 12.
+// The switch: its master, the telling of the open streams, and the steps of kinds 8 to 12. Kind 13 is the flag alone.
 // A step is two functions: one gives its answer code and only reads, the other does what is to be done where the code is 0.
 ghost use mathlib.Core.Path.{_≡_};
 ghost use mathlib.Core.Bool.{true};
 ghost use mathlib.Core.List.{List};
 ghost use Prim.Native.Nat.{ℕ, _+_, _-_, _≤_};
-ghost use lib.ListN.{set};
+ghost use lib.Dec.{leb};
 ghost use Rattle.rules.specs.Limits.{mostNodes};
 ghost use Rattle.rules.specs.Queues.{before, first};
 ghost use Rattle.rules.specs.Election.{largest, masterOf, taken, statusFor, news, roomOpen};
@@ -19,10 +19,10 @@ ghost use Rattle.parts.specs.declared.Message.the-variants as M;
 ghost use Rattle.state.specs.Hold.{idAt, openAt, responsesAt, holdWire};
 ghost use Rattle.state.specs.Order.{OrderedWire, OrderedStream};
 ghost use Rattle.state.specs.Reads.{answerOf, linkedOf, toldOf, servedOf};
-ghost use Rattle.state.specs.Stores.{storeOpen, storeTelling, storeServing, packWire};
+ghost use Rattle.state.specs.Stores.{storeOpen, storeTelling, packWire};
 ghost use Rattle.switch.specs.Asks.{IsNode, OrderedRows, AtWire, Tells, UpdateAt, CanUpdate, HasHead, AtStream, WriteAt, CanWrite};
 ghost use Rattle.switch.specs.Handled.{storeHandled};
-ghost use Rattle.switch.specs.Does.{closedStream, told, handled, tellRow, withClaim, clearedAt, waiting, judged};
+ghost use Rattle.switch.specs.Does.{closedStream, told, withoutHead, tellRow, withClaim, clearedAt, waiting, collides, judged};
 use parts::ElectionId;
 use parts::Message;
 use parts::Request;
@@ -161,6 +161,15 @@ fn tell(stream: Stream, response: Response) -> Stream
     next
 }
 
+// The node alone is told.
+fn tell_one(count: u8, node: u8, ids: [ElectionId; 8], stream: Stream) -> Stream
+    requires { ⌜ count ≤ mostNodes ⌝ }
+    ensures { λ r. ⌜ r ≡ told (packResponse (news (column idAt count ids) node)) stream ⌝ }
+{
+    let response = news_for(node, master_of(count, ids), largest_id(count, ids));
+    tell(stream, response)
+}
+
 // Whether every open stream has room to be told.
 fn tell_room(count: u8, streams: [Stream; 8]) -> bool
     requires { ⌜ OrderedRows count streams ⌝ }
@@ -199,6 +208,29 @@ fn tell_all(count: u8, ids: [ElectionId; 8], streams: [Stream; 8]) -> [Stream; 8
     next
 }
 
+// 8 Connect: its answer.
+pub fn connect_code(running: bool, stream: Stream) -> u8
+    ensures { λ r. ⌜ r ≡ answerOf (decide connectRule (linkedOf running stream)) ⌝ }
+{
+    if running {
+        if stream.opened {
+            return parts::NOT_ALLOWED;
+        }
+        return parts::DONE;
+    }
+    parts::NOT_ALLOWED
+}
+
+// 8 Connect: the stream is opened.
+pub fn connect(stream: Stream) -> Stream
+    ensures { λ r. ⌜ r ≡ storeOpen true stream ⌝ }
+{
+    let mut next = stream;
+    next.opened = true;
+    next
+}
+
+// A closed stream.
 fn closed_stream() -> Stream
     ensures { λ r. ⌜ r ≡ closedStream ⌝ }
 {
@@ -232,33 +264,11 @@ fn cleared_at(node: u8, streams: [Stream; 8], claims: Claims) -> Wire
     let at = (node - 1) as usize;
     let mut next = streams;
     next[at] = closed_stream();
-    let held = with_claim(node, ElectionId(0), Term(0), claims);
+    let cleared = with_claim(node, ElectionId(0), Term(0), claims);
     Wire {
         streams: next,
-        claims: held,
+        claims: cleared,
     }
-}
-
-// 8 Connect: its answer.
-pub fn connect_code(running: bool, stream: Stream) -> u8
-    ensures { λ r. ⌜ r ≡ answerOf (decide connectRule (linkedOf running stream)) ⌝ }
-{
-    if running {
-        if stream.opened {
-            return parts::NOT_ALLOWED;
-        }
-        return parts::DONE;
-    }
-    parts::NOT_ALLOWED
-}
-
-// 8 Connect: the stream is opened.
-pub fn connect(stream: Stream) -> Stream
-    ensures { λ r. ⌜ r ≡ storeOpen true stream ⌝ }
-{
-    let mut next = stream;
-    next.opened = true;
-    next
 }
 
 // Whether all streams that closing the node's would tell have room.
@@ -301,11 +311,11 @@ pub fn close(count: u8, node: u8, streams: [Stream; 8], claims: Claims) -> Wire
 {
     let left = cleared_at(node, streams, claims);
     let held = left.claims;
-    let ids = held.ids;
-    let old = claims.ids;
-    if master_changes(count, old, ids) {
+    let ids_left = held.ids;
+    let ids = claims.ids;
+    if master_changes(count, ids, ids_left) {
         let rows = left.streams;
-        let told = tell_all(count, ids, rows);
+        let told = tell_all(count, ids_left, rows);
         return Wire {
             streams: told,
             claims: held,
@@ -325,7 +335,7 @@ fn head(stream: Stream) -> Request
 
 // The request at the head is taken off.
 fn without_head(stream: Stream) -> Stream
-    ensures { λ r. ⌜ r ≡ handled stream ⌝ }
+    ensures { λ r. ⌜ r ≡ withoutHead stream ⌝ }
 {
     let requests = stream.requests;
     let mut next = stream;
@@ -372,17 +382,25 @@ fn update_room(count: u8, node: u8, streams: [Stream; 8], claims: Claims) -> boo
     true
 }
 
-// Whether there is room for what handling the update tells: an id that another node holds closes the stream.
-fn update_fits(count: u8, node: u8, streams: [Stream; 8], claims: Claims) -> bool
+// Whether another node holds the id of the update at the head of the node's requests.
+fn is_collision(count: u8, node: u8, streams: [Stream; 8], claims: Claims) -> bool
     requires { ⌜ UpdateAt count node streams claims ⌝ }
-    ensures { λ r. ⌜ r ≡ handleUpdateRule node .queuesLeft (toldOf count node true streams claims) ⌝ }
+    ensures { λ r. ⌜ r ≡ collides node (toldOf count node true streams claims) ⌝ }
 {
     let at = (node - 1) as usize;
     let stream = streams[at];
     let request = head(stream);
     let id = request.id;
     let ids = claims.ids;
-    if is_taken(count, node, id, ids) {
+    is_taken(count, node, id, ids)
+}
+
+// Whether all streams that handling the update would tell have room: a collision closes the stream.
+fn update_fits(count: u8, node: u8, streams: [Stream; 8], claims: Claims) -> bool
+    requires { ⌜ UpdateAt count node streams claims ⌝ }
+    ensures { λ r. ⌜ r ≡ handleUpdateRule node .queuesLeft (toldOf count node true streams claims) ⌝ }
+{
+    if is_collision(count, node, streams, claims) {
         return close_room(count, node, streams, claims);
     }
     update_room(count, node, streams, claims)
@@ -437,25 +455,19 @@ fn updated(count: u8, node: u8, streams: [Stream; 8], claims: Claims) -> Wire
             claims: held,
         };
     }
-    let response = news_for(node, master_of(count, ids), largest_id(count, ids));
-    next[at] = tell(row, response);
+    next[at] = tell_one(count, node, ids, row);
     Wire {
         streams: next,
         claims: held,
     }
 }
 
-// 10 Handle update: an id that another node holds closes the stream, and any other is taken.
+// 10 Handle update: a collision closes the stream, and any other update is taken.
 pub fn handle_update(count: u8, node: u8, streams: [Stream; 8], claims: Claims) -> Wire
     requires { ⌜ Tells handleUpdateRule count node streams claims ⌝ }
     ensures { λ r. ⌜ r ≡ storeTelling node (handleUpdateRule node .effect (toldOf count node true streams claims)) count streams claims ⌝ }
 {
-    let at = (node - 1) as usize;
-    let stream = streams[at];
-    let request = head(stream);
-    let id = request.id;
-    let ids = claims.ids;
-    if is_taken(count, node, id, ids) {
+    if is_collision(count, node, streams, claims) {
         return close(count, node, streams, claims);
     }
     updated(count, node, streams, claims)
@@ -467,6 +479,13 @@ pub struct Handled {
     pub last: Term,
     pub accepted: bool,
     pub term: Term,
+}
+
+// Whether a term is at least the last accepted one.
+fn is_current(last: Term, term: Term) -> bool
+    ensures { λ r. ⌜ r ≡ leb (last .0) (term .0) ⌝ }
+{
+    last.0 <= term.0
 }
 
 // Whether the switch accepts a write with this id from the node.
@@ -482,7 +501,7 @@ fn accepts(count: u8, node: u8, id: ElectionId, claims: Claims) -> bool
             let terms = claims.terms;
             let term = terms[at];
             let last = claims.last;
-            return last.0 <= term.0;
+            return is_current(last, term);
         }
     }
     false

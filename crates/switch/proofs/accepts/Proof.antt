@@ -1,7 +1,5 @@
 -- `accepts` meets its contract. Assumes nothing.
-use mathlib.Core.Path.{_≡_, sym, _∙_}
-use mathlib.Core.Bool.{false}
-use Prim.Native.Nat.{ℕ}
+use mathlib.Core.Path.{sym, _∙_}
 use borrow.Author.Tests.{eq-eqb, ne-eqb}
 use borrow.Author.Needs.{needs}
 use Rattle.switch.proofs.Writing.{judged-is}
@@ -29,22 +27,25 @@ mul-term c = search needs
 array-copy-out-term : tie.Need-array-copy-out-term
 array-copy-out-term c = search needs
 
+is-current-requires : tie.Need-is-current-requires
+is-current-requires c κs = search needs
+
 returns : tie.Need-returns
 returns c =
-    let start = c .before .before .before .before .before .before .before .before .before .before .before .before in
-    sym (judged-is (start .args .count) (start .args .node) (start .args .claims) (start .pre) (start .args .id .0)
-    ∙ simp (eq-eqb _ _ (c .before .before .before .before .before .before .before .if1 .taken), eq-eqb _ _ (sym (c .before .before .before .before .before .before .master-of .ensures) ∙ c .before .before .before .before .before .if2 .taken)))
+    let start = c .before .before .before .before .before .before .before .before .before .before .before in
+    c .is-current .ensures
+    ∙ sym (judged-is (start .pre) (start .args .claims) (start .args .id .0)
+    ∙ simp (eq-eqb _ _ (c .before .before .before .before .before .before .if1 .taken), eq-eqb _ _ (sym (c .before .before .before .before .before .master-of .ensures) ∙ c .before .before .before .before .if2 .taken)))
 
 returns-2 : tie.Need-returns-2
 returns-2 c =
     let start = c .before .before .before .before .before .before .before in
-    sym (judged-is (start .args .count) (start .args .node) (start .args .claims) (start .pre) (start .args .id .0)
-    ∙ simp (eq-eqb _ _ (c .before .before .if1 .taken), ne-eqb _ _ (λ e. c .if2 .left (c .before .master-of .ensures ∙ e))))
+    sym (judged-is (start .pre) (start .args .claims) (start .args .id .0) ∙ simp (eq-eqb _ _ (c .before .before .if1 .taken), ne-eqb _ _ (λ e. c .if2 .left (c .before .master-of .ensures ∙ e))))
 
 returns-3 : tie.Need-returns-3
 returns-3 c =
     let start = c .before .before .before .before .before in
-    sym (judged-is (start .args .count) (start .args .node) (start .args .claims) (start .pre) (start .args .id .0) ∙ simp (ne-eqb _ _ (c .if1 .left)))
+    sym (judged-is (start .pre) (start .args .claims) (start .args .id .0) ∙ simp (ne-eqb _ _ (c .if1 .left)))
 
 pub accepts-spec : {M : Type 1} → statement M
 accepts-spec =
@@ -57,6 +58,7 @@ accepts-spec =
     master-of-requires
     mul-term
     array-copy-out-term
+    is-current-requires
     returns
     returns-2
     returns-3)

@@ -1,6 +1,6 @@
 -- `close` meets its contract. Assumes nothing.
 use mathlib.Core.Path.{_≡_, sym, ap, _∙_}
-use Prim.Native.Nat.{ℕ, _≤_}
+use mathlib.Core.Bool.{Bool}
 use borrow.Author.Needs.{needs}
 use Rattle.rules.specs.Limits.{mostNodes}
 use Rattle.rules.specs.Rules.{changes, closeRule}
@@ -9,9 +9,16 @@ use Rattle.seqs.specs.Tables.{table}
 use Rattle.state.specs.Hold.{idAt, openAt}
 use Rattle.state.specs.declared.Wire.{Wire}
 use Rattle.switch.specs.Does.{tellRow}
-use Rattle.switch.proofs.Closing.{closed-quiet, closed-told, close-roomy}
+use Rattle.switch.proofs.Closing.{shifts, closed-quiet, closed-told, close-roomy}
 use Rattle.switch.proofs.close.Statement.{statement}
 use Rattle.switch.proofs.close.Tie as tie
+
+-- whether the switch's master changes
+shifts-so : (c : tie.After-master-changes) (b : Bool) → c .master-changes .result ≡ b → shifts (c .before .before .before .before .before .pre .at) ≡ b
+shifts-so c b e =
+    let start = c .before .before .before .before .before in
+    ap (λ (x : Wire). changes (column idAt (start .args .count) (start .args .claims .ids)) (column idAt (start .args .count) (x .claims .ids))) (sym (c .before .before .before .before .cleared-at .ensures))
+    ∙ sym (c .master-changes .ensures) ∙ e
 
 cleared-at-requires : tie.Need-cleared-at-requires
 cleared-at-requires c κs = search needs
@@ -27,20 +34,14 @@ unfolding closeRule
 returns c =
     let start = c .before .before .before .before .before .before .before .before in
     let count = start .args .count in
-    let p = c .before .before .before .before .before .before .before .cleared-at .ensures in
-    let changed = ap (λ (x : Wire). changes (column idAt count (start .args .claims .ids)) (column idAt count (x .claims .ids))) (sym p) ∙ sym (c .before .before .before .master-changes .ensures) ∙ c .before .before .if1 .taken in
-    ap {B = Wire} (λ r. record { streams = r; claims = c .before .before .before .before .before .before .before .cleared-at .result .claims }) (c .tell-all .ensures)
-    ∙ ap {B = Wire} (λ (x : Wire). record { streams = table mostNodes (tellRow (column openAt count (x .streams)) (column idAt count (x .claims .ids)) (x .streams)); claims = x .claims }) p
-    ∙ closed-told count (start .args .node) (start .args .streams) (start .args .claims) (start .pre .at) changed (close-roomy count (start .args .node) (start .args .streams) (start .args .claims) (start .pre .at) (start .pre .goes))
+    let left = c .before .before .before .before .before .before .before .cleared-at in
+    ap {B = Wire} (λ r. record { streams = r; claims = left .result .claims }) (c .tell-all .ensures)
+    ∙ ap {B = Wire} (λ (x : Wire). record { streams = table mostNodes (tellRow (column openAt count (x .streams)) (column idAt count (x .claims .ids)) (x .streams)); claims = x .claims }) (left .ensures)
+    ∙ closed-told (start .pre .at) (shifts-so (c .before .before .before) _ (c .before .before .if1 .taken)) (close-roomy (start .pre .at) (start .pre .goes))
 
 returns-2 : tie.Need-returns-2
 unfolding closeRule
-returns-2 c =
-    let start = c .before .before .before .before .before .before in
-    let count = start .args .count in
-    let p = c .before .before .before .before .before .cleared-at .ensures in
-    let changed = ap (λ (x : Wire). changes (column idAt count (start .args .claims .ids)) (column idAt count (x .claims .ids))) (sym p) ∙ sym (c .before .master-changes .ensures) ∙ c .if1 .left in
-    p ∙ closed-quiet count (start .args .node) (start .args .streams) (start .args .claims) (start .pre .at) changed
+returns-2 c = c .before .before .before .before .before .cleared-at .ensures ∙ closed-quiet (c .before .before .before .before .before .before .pre .at) (shifts-so (c .before) _ (c .if1 .left))
 
 pub close-spec : {M : Type 1} → statement M
 close-spec =

@@ -1,5 +1,5 @@
 -- `close_code` meets its contract. Assumes nothing.
-use mathlib.Core.Path.{_≡_, refl, sym, _∙_}
+use mathlib.Core.Path.{refl, sym, _∙_}
 use mathlib.Core.Bool.{true, false}
 use borrow.Author.Needs.{needs}
 use Rattle.switch.proofs.Closing.{close-answer}
@@ -22,19 +22,13 @@ close-room-requires : tie.Need-close-room-requires
 close-room-requires c κs = search needs
 
 returns : tie.Need-returns
-returns c =
-    let start = c .before .before .before .before in
-    sym (close-answer (start .args .count) (start .args .node) (start .args .t3) (start .args .claims) (start .pre) true true (c .before .before .if1 .taken) (sym (c .before .close-room .ensures) ∙ c .if2 .taken))
+returns c = sym (close-answer (c .before .before .before .before .pre) true true (c .before .before .if1 .taken) (sym (c .before .close-room .ensures) ∙ c .if2 .taken))
 
 returns-2 : tie.Need-returns-2
-returns-2 c =
-    let start = c .before .before .before .before in
-    sym (close-answer (start .args .count) (start .args .node) (start .args .t3) (start .args .claims) (start .pre) true false (c .before .before .if1 .taken) (sym (c .before .close-room .ensures) ∙ c .if2 .left))
+returns-2 c = sym (close-answer (c .before .before .before .before .pre) true false (c .before .before .if1 .taken) (sym (c .before .close-room .ensures) ∙ c .if2 .left))
 
 returns-3 : tie.Need-returns-3
-returns-3 c =
-    let start = c .before .before in
-    sym (close-answer (start .args .count) (start .args .node) (start .args .t3) (start .args .claims) (start .pre) false _ (c .if1 .left) refl)
+returns-3 c = sym (close-answer (c .before .before .pre) false _ (c .if1 .left) refl)
 
 pub close-code-spec : {M : Type 1} → statement M
 close-code-spec =

@@ -1,14 +1,12 @@
 -- `close_room` meets its contract. Assumes nothing.
-use mathlib.Core.Path.{_≡_, sym, ap, _∙_}
-use mathlib.Core.List.{List}
-use Prim.Native.Nat.{ℕ, _-_}
+use mathlib.Core.Path.{sym, ap, _∙_}
+use Prim.Native.Nat.{_-_}
 use lib.ListN.{set}
 use borrow.Author.Needs.{needs}
 use Rattle.rules.specs.Election.{roomOpen}
 use Rattle.seqs.specs.Columns.{column}
 use Rattle.state.specs.Hold.{openAt, responsesAt}
 use Rattle.state.specs.declared.Stream.{Stream}
-use Rattle.switch.specs.Asks.{OrderedRows}
 use Rattle.switch.proofs.Closing.{ordered-others, room-quiet, room-told}
 use Rattle.switch.proofs.close_room.Statement.{statement}
 use Rattle.switch.proofs.close_room.Tie as tie
@@ -38,21 +36,17 @@ array-set-from-others : tie.Need-array-set-from-others
 array-set-from-others c = search needs
 
 tell-room-requires : tie.Need-tell-room-requires
-tell-room-requires c κs =
-    let start = c .before .before .before .before in
-    rw (c .closed-stream .ensures) (ordered-others (start .args .count) (start .args .node) (start .args .streams) (start .args .claims) (start .pre))
+tell-room-requires c κs = rw (c .closed-stream .ensures) (ordered-others (c .before .before .before .before .pre))
 
 returns : tie.Need-returns
 returns c =
     let start = c .before .before .before .before .before in
     c .tell-room .ensures
     ∙ ap (λ (r : Stream). let l = set (start .args .streams) (start .args .node - 1) r in roomOpen (column openAt (start .args .count) l) (column responsesAt (start .args .count) l)) (c .before .closed-stream .ensures)
-    ∙ sym (room-told (start .args .count) (start .args .node) (start .args .streams) (start .args .claims) (start .pre) (sym (c .before .before .before .master-changes .ensures) ∙ c .before .before .if1 .taken))
+    ∙ sym (room-told (start .pre) (sym (c .before .before .before .master-changes .ensures) ∙ c .before .before .if1 .taken))
 
 returns-2 : tie.Need-returns-2
-returns-2 c =
-    let start = c .before .before .before in
-    sym (room-quiet (start .args .count) (start .args .node) (start .args .streams) (start .args .claims) (start .pre) (sym (c .before .master-changes .ensures) ∙ c .if1 .left))
+returns-2 c = sym (room-quiet (c .before .before .before .pre) (sym (c .before .master-changes .ensures) ∙ c .if1 .left))
 
 pub close-room-spec : {M : Type 1} → statement M
 close-room-spec =

@@ -1,7 +1,7 @@
 -- `handle_write` meets its contract. Assumes nothing.
 use mathlib.Core.Path.{_≡_, sym, ap, ap₂, _∙_}
-use mathlib.Core.Bool.{true, false}
-use Prim.Native.Nat.{ℕ, _-_}
+use mathlib.Core.Bool.{Bool, true, false}
+use Prim.Native.Nat.{_-_}
 use lib.ListN.{getD}
 use borrow.Author.Needs.{needs}
 use Rattle.parts.specs.declared.Request.{Request}
@@ -9,12 +9,18 @@ use Rattle.parts.specs.declared.Term.{Term}
 use Rattle.state.specs.declared.Stream.{Stream}
 use Rattle.switch.specs.declared.Handled.{Handled}
 use Rattle.switch.specs.Does.{judged, told}
-use Rattle.switch.proofs.Writing.{has-head, accepted, denied}
+use Rattle.switch.proofs.Writing.{has-head, headId, accepted, denied}
 use Rattle.switch.proofs.handle_write.Statement.{statement}
 use Rattle.switch.proofs.handle_write.Tie as tie
 
+-- whether the write is accepted
+judges : (c : tie.After-accepts) (b : Bool) → c .accepts .result ≡ b → let start = c .before .before .before .before in judged (start .args .count) (start .args .node) (headId (start .args .stream)) (start .args .claims) ≡ b
+judges c b e =
+    let start = c .before .before .before .before in
+    ap (λ (r : Request). judged (start .args .count) (start .args .node) (r .id .0) (start .args .claims)) (sym (c .before .before .before .head .ensures)) ∙ sym (c .accepts .ensures) ∙ e
+
 head-requires : tie.Need-head-requires
-head-requires c κs = let start = c in has-head (start .args .count) (start .args .node) (start .args .stream) (start .args .claims) (start .pre .head)
+head-requires c κs = has-head (c .pre .head)
 
 without-head-requires : tie.Need-without-head-requires
 without-head-requires c κs = search needs
@@ -43,10 +49,9 @@ tell-requires c κs = search needs
 returns : tie.Need-returns
 returns c =
     let start = c .before .before .before .before .before .before .before .before .before .before in
-    let judged-so = ap (λ (r : Request). judged (start .args .count) (start .args .node) (r .id .0) (start .args .claims)) (sym (c .before .before .before .before .before .before .before .before .before .head .ensures)) ∙ sym (c .before .before .before .before .before .before .accepts .ensures) ∙ c .before .before .before .before .before .if1 .taken in
-    let answer = c .tell .ensures ∙ ap₂ told (c .before .written .ensures) (c .before .before .before .before .before .before .before .without-head .ensures) in
-    ap₂ {C = Handled} (λ (s : Stream) (t : Term). record { stream = s; last = getD (start .args .claims .terms) (start .args .node - 1) (record { 0 = 0 }); accepted = true; term = t }) answer (ap (λ (r : Request). r .term) (c .before .before .before .before .before .before .before .before .before .head .ensures))
-    ∙ accepted (start .args .count) (start .args .node) (start .args .stream) (start .args .claims) (start .pre) judged-so
+    ap₂ {C = Handled} (λ (s : Stream) (t : Term). record { stream = s; last = getD (start .args .claims .terms) (start .args .node - 1) (record { 0 = 0 }); accepted = true; term = t })
+    (c .tell .ensures ∙ ap₂ told (c .before .written .ensures) (c .before .before .before .before .before .before .before .without-head .ensures)) (ap (λ (r : Request). r .term) (c .before .before .before .before .before .before .before .before .before .head .ensures))
+    ∙ accepted (start .pre) (judges (c .before .before .before .before .before .before) _ (c .before .before .before .before .before .if1 .taken))
 
 written-requires-2 : tie.Need-written-requires-2
 written-requires-2 c κs = search needs
@@ -57,9 +62,8 @@ tell-requires-2 c κs = search needs
 returns-2 : tie.Need-returns-2
 returns-2 c =
     let start = c .before .before .before .before .before .before .before .before in
-    let judged-so = ap (λ (r : Request). judged (start .args .count) (start .args .node) (r .id .0) (start .args .claims)) (sym (c .before .before .before .before .before .before .before .head .ensures)) ∙ sym (c .before .before .before .before .accepts .ensures) ∙ c .before .before .before .if1 .left in
-    let answer = c .tell2 .ensures ∙ ap₂ told (c .before .written2 .ensures) (c .before .before .before .before .before .without-head .ensures) in
-    ap {B = Handled} (λ (s : Stream). record { stream = s; last = start .args .claims .last; accepted = false; term = record { 0 = 0 } }) answer ∙ denied (start .args .count) (start .args .node) (start .args .stream) (start .args .claims) (start .pre) judged-so
+    ap {B = Handled} (λ (s : Stream). record { stream = s; last = start .args .claims .last; accepted = false; term = record { 0 = 0 } }) (c .tell2 .ensures ∙ ap₂ told (c .before .written2 .ensures) (c .before .before .before .before .before .without-head .ensures))
+    ∙ denied (start .pre) (judges (c .before .before .before .before) _ (c .before .before .before .if1 .left))
 
 pub handle-write-spec : {M : Type 1} → statement M
 handle-write-spec =

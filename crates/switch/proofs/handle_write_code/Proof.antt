@@ -1,5 +1,5 @@
 -- `handle_write_code` meets its contract. Assumes nothing.
-use mathlib.Core.Path.{_≡_, sym, _∙_}
+use mathlib.Core.Path.{sym, _∙_}
 use borrow.Author.Needs.{needs}
 use Rattle.switch.proofs.Waiting.{not-write}
 use Rattle.switch.proofs.Writing.{write-at, write-runs, no-write}
@@ -13,17 +13,17 @@ enum-told : tie.Need-enum-told
 enum-told c = search needs
 
 write-code-requires : tie.Need-write-code-requires
-write-code-requires c κs = let start = c .before .before .before in write-at (start .args .count) (start .args .node) (start .args .stream) (start .args .claims) (start .pre) (start .args .running) (sym (c .before .before .waits .ensures) ∙ c .enum-told .given .1)
+write-code-requires c κs = let start = c .before .before .before in write-at (start .pre) (start .args .claims) (start .args .running) (sym (c .before .before .waits .ensures) ∙ c .enum-told .given .1)
 
 returns : tie.Need-returns
 returns c =
     let start = c .before .before .before .before in
-    c .write-code .ensures ∙ write-runs (start .args .count) (start .args .node) (start .args .stream) (start .args .claims) (start .args .running) (start .args .writes) (sym (c .before .before .before .waits .ensures) ∙ c .before .enum-told .given .1)
+    c .write-code .ensures ∙ write-runs (start .pre) (start .args .claims) (start .args .running) (start .args .writes) (sym (c .before .before .before .waits .ensures) ∙ c .before .enum-told .given .1)
 
 returns-2 : tie.Need-returns-2
 returns-2 c =
     let start = c .before .before in
-    sym (no-write (start .args .count) (start .args .node) (start .args .stream) (start .args .claims) (start .args .running) (start .args .writes) (λ e. not-write (c .before .waits .result) (c .match .keys2) (c .before .waits .ensures ∙ e)))
+    sym (no-write (start .pre) (start .args .claims) (start .args .running) (start .args .writes) (λ e. not-write (c .before .waits .result) (c .match .keys2) (c .before .waits .ensures ∙ e)))
 
 pub handle-write-code-spec : {M : Type 1} → statement M
 handle-write-code-spec =

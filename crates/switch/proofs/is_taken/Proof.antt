@@ -1,13 +1,11 @@
 -- `is_taken` meets its contract. Assumes nothing.
-use mathlib.Core.Path.{_≡_, refl, sym, ap, ap₂, _∙_}
-use mathlib.Core.Bool.{Bool}
-use mathlib.Core.List.{List}
-use Prim.Native.Nat.{ℕ, _-_, _≤_}
+use mathlib.Core.Path.{_≡_, sym, ap, ap₂, _∙_}
+use Prim.Native.Nat.{_-_, _≤_}
 use native.Mathlib.Omega.{arith}
 use lib.Dec.{ltb}
 use lib.ListN.{length, set, length-set}
 use borrow.Author.Needs.{needs}
-use Rattle.rules.specs.Queues.{before, has}
+use Rattle.rules.specs.Queues.{before}
 use Rattle.rules.specs.Election.{taken}
 use Rattle.seqs.specs.Columns.{column, length-column, column-set}
 use Rattle.state.specs.Hold.{idAt}

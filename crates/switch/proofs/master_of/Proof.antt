@@ -1,12 +1,12 @@
 -- `master_of` meets its contract. Assumes nothing.
-use mathlib.Core.Path.{_≡_, refl, sym, ap, _∙_}
-use Prim.Native.Nat.{ℕ, _+_, _≤_}
+use mathlib.Core.Path.{_≡_, sym, ap, _∙_}
+use Prim.Native.Nat.{ℕ, _+_}
 use native.Mathlib.Omega.{arith}
 use lib.ListN.{length}
 use borrow.Author.Tests.{eq-eqb, ne-eqb}
 use borrow.Author.Needs.{needs}
 use Rattle.rules.specs.Queues.{before}
-use Rattle.rules.specs.Election.{largest, masterOf}
+use Rattle.rules.specs.Election.{masterOf}
 use Rattle.seqs.specs.Columns.{column, length-column}
 use Rattle.state.specs.Hold.{idAt}
 use Rattle.switch.proofs.Passing.{before-le}

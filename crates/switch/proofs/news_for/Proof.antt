@@ -1,5 +1,4 @@
 -- `news_for` meets its contract. Assumes nothing.
-use mathlib.Core.Path.{_≡_, refl, sym, ap, _∙_}
 use borrow.Author.Needs.{needs}
 use Rattle.rules.specs.Election.{news}
 use Rattle.switch.proofs.news_for.Statement.{statement}

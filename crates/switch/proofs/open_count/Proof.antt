@@ -1,5 +1,5 @@
 -- `open_count` meets its contract. Assumes nothing.
-use mathlib.Core.Path.{_≡_, ap, _∙_}
+use mathlib.Core.Path.{ap, _∙_}
 use lib.Count.{ones}
 use borrow.Author.Needs.{needs}
 use Rattle.seqs.specs.Columns.{column}

@@ -1,10 +1,10 @@
 -- `shutdown` meets its contract: the streams of the first nodes are closed. Assumes nothing.
-use mathlib.Core.Path.{_≡_, refl, sym, ap, ap₂, _∙_}
-use Prim.Native.Nat.{ℕ, _+_, _-_, _≤_}
+use mathlib.Core.Path.{_≡_, sym, ap, _∙_}
+use Prim.Native.Nat.{ℕ, _-_, _≤_}
 use native.Mathlib.Omega.{arith}
 use borrow.Author.Needs.{needs}
 use Rattle.rules.specs.State as S
-use Rattle.state.specs.Hold.{holdWire, packStreams, packClaims}
+use Rattle.state.specs.Hold.{holdWire}
 use Rattle.state.specs.Stores.{packWire}
 use Rattle.state.specs.declared.Wire.{Wire}
 use Rattle.switch.proofs.Storing.{sized}

@@ -1,6 +1,5 @@
 -- `status_for` meets its contract. Assumes nothing.
-use mathlib.Core.Path.{_≡_, refl, sym, ap, _∙_}
-use mathlib.Core.Bool.{Bool, cond}
+use mathlib.Core.Path.{sym, _∙_}
 use borrow.Author.Tests.{eq-eqb, ne-eqb}
 use Rattle.rules.specs.Election.{masterOf, statusFor}
 use Rattle.switch.proofs.status_for.Statement.{statement}

@@ -1,6 +1,6 @@
 -- `tell_all` meets its contract: the loop walks the word of the open streams, and has told each stream that is no longer in it. Assumes nothing.
 use mathlib.Core.Path.{_≡_, refl, sym, ap, ap₂, _∙_}
-use mathlib.Core.Bool.{Bool, true, false, cond}
+use mathlib.Core.Bool.{Bool, false, cond}
 use mathlib.Core.List.{List}
 use Prim.Native.Nat.{ℕ, _+_, _-_, _≤_, _<_}
 use native.Mathlib.Omega.{arith}
@@ -15,7 +15,6 @@ use Rattle.seqs.specs.Columns.{column, length-column}
 use Rattle.words.specs.Flags.{Lowest, lowest}
 use Rattle.words.specs.Walk.{Walk, walk-start, walk-step, walk-at, walk-end}
 use Rattle.parts.specs.Hold.{packResponse}
-use Rattle.parts.specs.declared.Response.{Response}
 use Rattle.state.specs.Hold.{idAt, openAt}
 use Rattle.state.specs.Order.{pastStream}
 use Rattle.state.specs.declared.Stream.{Stream}

@@ -1,8 +1,8 @@
 -- `tell_room` meets its contract: i rows are passed, and each of them has room or is closed. Assumes nothing.
 use mathlib.Core.Path.{_≡_, refl, sym, ap, ap₂, _∙_}
-use mathlib.Core.Bool.{Bool, true, false, not, _&&_, _||_}
+use mathlib.Core.Bool.{Bool, not, _&&_, _||_}
 use mathlib.Core.Logic.{⊎-elim}
-use Prim.Native.Nat.{ℕ, _+_, _-_, _≤_, _<_}
+use Prim.Native.Nat.{_+_, _-_, _≤_, _<_}
 use native.Mathlib.Omega.{arith}
 use lib.Dec.{leb}
 use lib.ListN.{length, drop, getD}
@@ -11,7 +11,7 @@ use Rattle.rules.specs.Limits.{queueLength}
 use Rattle.rules.specs.Queues.{room}
 use Rattle.rules.specs.Election.{roomOpen}
 use Rattle.seqs.specs.Columns.{column}
-use Rattle.parts.specs.Hold.{holdResponses, holdResponse, packResponse, noResponse, responsesQueue}
+use Rattle.parts.specs.Hold.{holdResponse, packResponse, noResponse, responsesQueue}
 use Rattle.seqs.specs.Queue.{room-held}
 use Rattle.state.specs.Hold.{openAt, responsesAt}
 use Rattle.state.specs.Order.{pastStream}

@@ -1,26 +1,24 @@
 -- `updated` meets its contract. Assumes nothing.
 use mathlib.Core.Path.{_≡_, sym, ap, ap₂, _∙_}
+use mathlib.Core.Bool.{Bool}
 use mathlib.Core.List.{List}
-use mathlib.Core.Bool.{true}
 use Prim.Native.Nat.{ℕ, _-_, _≤_, _<_}
 use native.Mathlib.Omega.{arith}
 use lib.ListN.{set}
 use borrow.Author.Needs.{needs}
 use Rattle.rules.specs.Limits.{mostNodes}
 use Rattle.rules.specs.Election.{news}
-use Rattle.rules.specs.Rules.{changes, idsWith}
+use Rattle.rules.specs.Rules.{changes}
 use Rattle.seqs.specs.Columns.{column}
 use Rattle.seqs.specs.Tables.{table}
 use Rattle.parts.specs.Hold.{packResponse}
 use Rattle.parts.specs.declared.Request.{Request}
 use Rattle.state.specs.Hold.{idAt, openAt}
-use Rattle.state.specs.Reads.{toldOf}
 use Rattle.state.specs.declared.Claims.{Claims}
 use Rattle.state.specs.declared.Stream.{Stream}
 use Rattle.state.specs.declared.Wire.{Wire}
-use Rattle.switch.specs.Asks.{AtWire}
 use Rattle.switch.specs.Does.{told, withClaim, tellRow}
-use Rattle.switch.proofs.Updating.{has-head, head-is, ids-then, updated-all, updated-one}
+use Rattle.switch.proofs.Updating.{has-head, head-is, shifts, ids-then, claimsThen, updated-all, updated-one}
 use Rattle.switch.proofs.updated.Statement.{statement}
 use Rattle.switch.proofs.updated.Tie as tie
 
@@ -31,6 +29,19 @@ place c =
     let from = c .pre .head .at .from in
     let upto = c .pre .head .at .upto in
     omega arith
+
+-- the claims with the id and the term of the request
+claimed : (c : tie.After-with-claim) → c .with-claim .result ≡ claimsThen (c .before .before .before .before .before .pre .head)
+claimed c =
+    let start = c .before .before .before .before .before in
+    c .with-claim .ensures ∙ ap (λ (r : Request). withClaim (start .args .node) (r .id) (r .term) (start .args .claims)) (c .before .before .before .head .ensures ∙ head-is (start .pre .head))
+
+-- whether the switch's master changes
+shifts-so : (c : tie.After-master-changes) (b : Bool) → c .master-changes .result ≡ b → shifts (c .before .before .before .before .before .before .before .before .before .pre .head) ≡ b
+shifts-so c b e =
+    let start = c .before .before .before .before .before .before .before .before .before in
+    ap (λ (k : Claims). changes (column idAt (start .args .count) (start .args .claims .ids)) (column idAt (start .args .count) (k .ids))) (sym (claimed (c .before .before .before .before)))
+    ∙ sym (c .master-changes .ensures) ∙ e
 
 sub-at : tie.Need-sub-at
 sub-at c = search needs
@@ -45,7 +56,7 @@ array-copy-out-stream : tie.Need-array-copy-out-stream
 array-copy-out-stream c = search needs
 
 head-requires : tie.Need-head-requires
-head-requires c κs = let start = c .before in has-head (start .args .count) (start .args .node) (start .args .t3) (start .args .claims) (start .pre .head)
+head-requires c κs = has-head (c .before .pre .head)
 
 with-claim-requires : tie.Need-with-claim-requires
 with-claim-requires c κs = search needs
@@ -68,46 +79,27 @@ tell-all-requires c κs = search needs
 returns : tie.Need-returns
 returns c =
     let start = c .before .before .before .before .before .before .before .before .before .before .before in
-    let u = start .pre .head in
-    let asks = c .before .before .before .before .before .before .before .before .before .head .ensures ∙ head-is (start .args .count) (start .args .node) (start .args .t3) (start .args .claims) u in
-    let claimed = c .before .before .before .before .before .before .with-claim .ensures ∙ ap (λ (r : Request). withClaim (start .args .node) (r .id) (r .term) (start .args .claims)) asks in
-    let changed = ap (λ (k : Claims). changes (column idAt (start .args .count) (start .args .claims .ids)) (column idAt (start .args .count) (k .ids))) (sym claimed) ∙ sym (c .before .before .master-changes .ensures) ∙ c .before .if1 .taken in
+    let count = start .args .count in
     ap {B = Wire} (λ (l : List Stream). record { streams = l; claims = c .before .before .before .before .before .before .with-claim .result }) (c .tell-all .ensures)
-    ∙ ap₂ {C = Wire} (λ (k : Claims) (r : Stream). let next = set (start .args .t3) (start .args .node - 1) r in
-    record { streams = table mostNodes (tellRow (column openAt (start .args .count) next) (column idAt (start .args .count) (k .ids)) next); claims = k }) claimed (c .before .before .before .without-head .ensures)
-    ∙ updated-all (start .args .count) (start .args .node) (start .args .t3) (start .args .claims) u changed (start .pre .roomy)
+    ∙ ap₂ {C = Wire} (λ (k : Claims) (r : Stream). let next = set (start .args .t3) (start .args .node - 1) r in record { streams = table mostNodes (tellRow (column openAt count next) (column idAt count (k .ids)) next); claims = k }) (claimed (c .before .before .before .before .before .before)) (c .before .before .before .without-head .ensures)
+    ∙ updated-all (start .pre .head) (shifts-so (c .before .before) _ (c .before .if1 .taken)) (start .pre .roomy)
 
-master-of-requires : tie.Need-master-of-requires
-master-of-requires c κs = search needs
-
-largest-id-requires : tie.Need-largest-id-requires
-largest-id-requires c κs = search needs
-
-news-for-requires : tie.Need-news-for-requires
-news-for-requires c κs = search needs
-
-tell-requires : tie.Need-tell-requires
-tell-requires c κs = search needs
+tell-one-requires : tie.Need-tell-one-requires
+tell-one-requires c κs = search needs
 
 mul-next-2 : tie.Need-mul-next-2
-mul-next-2 c = omega (arith, place (c .before .before .before .before .before .before .before .before .before .before .before .before .before .before))
+mul-next-2 c = omega (arith, place (c .before .before .before .before .before .before .before .before .before .before .before))
 
 array-set-from-next-2 : tie.Need-array-set-from-next-2
-array-set-from-next-2 c = omega (arith, place (c .before .before .before .before .before .before .before .before .before .before .before .before .before .before))
+array-set-from-next-2 c = omega (arith, place (c .before .before .before .before .before .before .before .before .before .before .before))
 
 returns-2 : tie.Need-returns-2
 returns-2 c =
-    let start = c .before .before .before .before .before .before .before .before .before .before .before .before .before .before in
-    let u = start .pre .head in
-    let asks = c .before .before .before .before .before .before .before .before .before .before .before .before .head .ensures ∙ head-is (start .args .count) (start .args .node) (start .args .t3) (start .args .claims) u in
-    let claimed = c .before .before .before .before .before .before .before .before .before .with-claim .ensures ∙ ap (λ (r : Request). withClaim (start .args .node) (r .id) (r .term) (start .args .claims)) asks in
-    let changed = ap (λ (k : Claims). changes (column idAt (start .args .count) (start .args .claims .ids)) (column idAt (start .args .count) (k .ids))) (sym claimed) ∙ sym (c .before .before .before .before .before .master-changes .ensures) ∙ c .before .before .before .before .if1 .left in
-    let ids = column idAt (start .args .count) (c .before .before .before .before .before .before .before .before .before .with-claim .result .ids) in
-    let said = c .before .news-for .ensures ids (sym (c .before .before .before .master-of .ensures)) (sym (c .before .before .largest-id .ensures)) in
-    let ids-are = ap (λ (k : Claims). column idAt (start .args .count) (k .ids)) claimed ∙ ids-then (start .args .count) (start .args .node) (start .args .t3) (start .args .claims) u in
-    let heard = c .tell .ensures ∙ ap₂ told (said ∙ ap (λ (l : List ℕ). packResponse (news l (start .args .node))) ids-are) (c .before .before .before .before .before .before .without-head .ensures) in
-    ap₂ {C = Wire} (λ (r : Stream) (k : Claims). record { streams = set (start .args .t3) (start .args .node - 1) r; claims = k }) heard claimed
-    ∙ updated-one (start .args .count) (start .args .node) (start .args .t3) (start .args .claims) u changed (start .pre .roomy)
+    let start = c .before .before .before .before .before .before .before .before .before .before .before in
+    ap₂ {C = Wire} (λ (r : Stream) (k : Claims). record { streams = set (start .args .t3) (start .args .node - 1) r; claims = k })
+    (c .tell-one .ensures ∙ ap₂ (λ (l : List ℕ) (r : Stream). told (packResponse (news l (start .args .node))) r) (ap (λ (k : Claims). column idAt (start .args .count) (k .ids)) (claimed (c .before .before .before .before .before .before)) ∙ ids-then (start .pre .head)) (c .before .before .before .without-head .ensures))
+    (claimed (c .before .before .before .before .before .before))
+    ∙ updated-one (start .pre .head) (shifts-so (c .before .before) _ (c .before .if1 .left)) (start .pre .roomy)
 
 pub updated-spec : {M : Type 1} → statement M
 updated-spec =
@@ -125,10 +117,7 @@ updated-spec =
     array-set-from-next
     tell-all-requires
     returns
-    master-of-requires
-    largest-id-requires
-    news-for-requires
-    tell-requires
+    tell-one-requires
     mul-next-2
     array-set-from-next-2
     returns-2)

@@ -1,5 +1,5 @@
 -- `waits` meets its contract. Assumes nothing.
-use mathlib.Core.Path.{_≡_, sym, ap, _∙_}
+use mathlib.Core.Path.{ap}
 use Rattle.parts.specs.declared.Request.{Request}
 use Rattle.switch.specs.Does.{waiting}
 use Rattle.switch.proofs.Waiting.{some-waits, none-waits}

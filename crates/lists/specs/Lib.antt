@@ -1,0 +1,6 @@
+pub mod EventList
+pub mod Reads
+pub mod Good
+pub mod Stores
+pub mod Written
+pub mod Sample

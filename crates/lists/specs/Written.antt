@@ -1,0 +1,86 @@
+-- A buffer as a run fills it: the answers from its front on, and behind the place of the last answer the entries of the history. Assumes nothing.
+use mathlib.Core.Path.{_≡_, refl, sym, ap, _∙_}
+use mathlib.Core.List.{List, [], _∷_, _++_, append-assoc, append-nil}
+use Prim.Native.Nat.{ℕ, _+_, _*_, _≤_, _<_}
+use native.Mathlib.Omega.{arith}
+use lib.ListN.{length, set, take, drop, length-append, length-drop, take-append-drop, drop-of-length-le}
+use lib.Seq.{sets, sets-eq, set-append-left, length-take-le, take-append-seam, drop-append-add, drop-drop}
+use Rattle.rules.specs.State.{Write}
+use Rattle.rules.specs.Queues.{push}
+use Rattle.lists.specs.EventList.{entryBytes, historyBytes, over}
+use Rattle.lists.specs.Stores.{sets-behind}
+
+-- ---- bytes at the front of a buffer
+
+pub over-length : (b l : List ℕ) → length b ≤ length l → length (over b l) ≡ length l
+over-length b l h = simp (length-append, length-drop) (omega arith)
+
+-- more bytes stored right behind them
+pub over-more : (b c l : List ℕ) → length b + length c ≤ length l → sets (over b l) (length b) c ≡ over (b ++ c) l
+over-more b c l h =
+    let n = over-length b l (omega arith) in
+    sets-eq c (over b l) (length b) (omega arith)
+    ∙ rw (take-append-seam b (drop (length b) l), drop-append-add b (drop (length b) l) (length c), drop-drop (length c) (length b) l, length-append b c)
+
+-- ---- the entries of the history
+
+pub history-length : (ws : List Write) → length (historyBytes ws) ≡ 4 * length ws
+unfolding historyBytes
+history-length [] = refl
+history-length (w ∷ ws) = let n = history-length ws in omega arith
+
+pub history-push : (ws : List Write) (w : Write) → historyBytes (push w ws) ≡ historyBytes ws ++ entryBytes w
+unfolding historyBytes push
+history-push [] w = refl
+history-push (v ∷ ws) w = ap (λ (t : List ℕ). entryBytes v ++ t) (history-push ws w)
+
+-- one entry more, in a part of a buffer
+pub entries-more : (ws : List Write) (w : Write) (part : List ℕ) → 4 * length ws + 4 ≤ length part
+    → sets (over (historyBytes ws) part) (4 * length ws) (entryBytes w) ≡ over (historyBytes (push w ws)) part
+entries-more ws w part h =
+    let n = history-length ws in
+    rw (history-push ws w, ← n) (over-more (historyBytes ws) (entryBytes w) part (omega arith))
+
+-- ---- the whole buffer, with room for `count` answers
+
+abbrev pub filled : ℕ → List ℕ → List Write → List ℕ → List ℕ
+filled count answers ws out = over answers (take count out) ++ over (historyBytes ws) (drop count out)
+
+module _ (count : ℕ) (out : List ℕ) (fits : count ≤ length out) where
+  pub filled-none : filled count [] [] out ≡ out
+  unfolding historyBytes
+  filled-none = take-append-drop count out
+
+  front : (answers : List ℕ) → length answers ≤ count → length (over answers (take count out)) ≡ count
+  front answers h = let n = length-take-le count out fits in over-length answers (take count out) (omega arith) ∙ n
+
+  pub filled-length : (answers : List ℕ) (ws : List Write) → length answers ≤ count → count + 4 * length ws ≤ length out → length (filled count answers ws out) ≡ length out
+  filled-length answers ws h k =
+      let n = history-length ws in
+      let d = length-drop count out in
+      let b = over-length (historyBytes ws) (drop count out) (omega arith) in
+      length-append (over answers (take count out)) (over (historyBytes ws) (drop count out)) ∙ omega (arith, front answers h)
+
+  -- one answer more
+  pub filled-answer : (answers : List ℕ) (ws : List Write) (a : ℕ) → length answers < count
+      → set (filled count answers ws out) (length answers) a ≡ filled count (push a answers) ws out
+  unfolding push
+  filled-answer answers ws a h =
+      let n = length-take-le count out fits in
+      set-append-left (over answers (take count out)) (over (historyBytes ws) (drop count out)) (length answers) a (let f = front answers (omega arith) in omega arith)
+      ∙ ap (λ (t : List ℕ). t ++ over (historyBytes ws) (drop count out)) (over-more answers (a ∷ []) (take count out) (omega arith))
+
+  -- one entry more
+  pub filled-entry : (answers : List ℕ) (ws : List Write) (w : Write) → length answers ≤ count → count + 4 * length ws + 4 ≤ length out
+      → sets (filled count answers ws out) (count + 4 * length ws) (entryBytes w) ≡ filled count answers (push w ws) out
+  filled-entry answers ws w h k =
+      let d = length-drop count out in
+      ap (λ (i : ℕ). sets (filled count answers ws out) (i + 4 * length ws) (entryBytes w)) (sym (front answers h))
+      ∙ sets-behind (entryBytes w) (over answers (take count out)) (over (historyBytes ws) (drop count out)) (4 * length ws)
+      ∙ ap (λ (t : List ℕ). over answers (take count out) ++ t) (entries-more ws w (drop count out) (omega arith))
+
+  -- all answers: the history follows at once, and the bytes after it stay
+  pub filled-all : (answers : List ℕ) (ws : List Write) → length answers ≡ count → filled count answers ws out ≡ over (answers ++ historyBytes ws) out
+  filled-all answers ws e =
+      let n = length-take-le count out fits in
+      rw (drop-of-length-le (take count out) {i = length answers} (omega arith), append-nil, drop-drop (length (historyBytes ws)) count out, length-append, e, append-assoc)

@@ -1,0 +1,28 @@
+-- `blank_core` meets its contract. Assumes nothing.
+use mathlib.Core.Path.{_≡_, refl, sym, ap, _∙_}
+use Rattle.rules.specs.Step.{fresh}
+use Rattle.state.specs.Hold.{packCore, packNodes, packStreams, packClaims}
+use Rattle.stepper.specs.Settling.{blank-core}
+use borrow.Author.Needs.{needs}
+use Rattle.stepper.proofs.blank_core.Statement.{statement}
+use Rattle.stepper.proofs.blank_core.Tie as tie
+
+blank-requires : tie.Need-blank-requires
+blank-requires c κs = search needs
+
+empty-requires : tie.Need-empty-requires
+empty-requires c κs = search needs
+
+empty-requires-2 : tie.Need-empty-requires-2
+empty-requires-2 c κs = search needs
+
+empty-requires-3 : tie.Need-empty-requires-3
+empty-requires-3 c κs = search needs
+
+returns : tie.Need-returns
+unfolding packCore fresh packNodes packStreams packClaims
+returns c = λ count. simp (c .before .before .before .blank .ensures, c .before .before .empty .ensures, c .before .empty2 .ensures, c .empty3 .ensures) (blank-core count)
+
+pub blank-core-spec : {M : Type 1} → statement M
+blank-core-spec =
+    tie.close (tie.spec blank-requires empty-requires empty-requires-2 empty-requires-3 returns)

@@ -1,0 +1,34 @@
+-- `open_streams` meets its contract. Assumes nothing.
+use mathlib.Core.Path.{_≡_, refl, sym, ap, _∙_}
+use mathlib.Core.Bool.{true}
+use Rattle.state.specs.Tidy.{stateFits}
+use Rattle.stepper.specs.declared.Report.{Report}
+use Rattle.stepper.specs.Public.{reported}
+use Rattle.stepper.specs.Stepping.{few-nodes, reports}
+use borrow.Author.Needs.{needs}
+use Rattle.stepper.proofs.open_streams.Statement.{statement}
+use Rattle.stepper.proofs.open_streams.Tie as tie
+
+-- the range test said yes
+fits : (c : tie.Then1) → stateFits (c .before .before .args .state) ≡ true
+fits c = sym (c .before .in-range .ensures) ∙ c .if1 .taken
+
+in-range-requires : tie.Need-in-range-requires
+in-range-requires c κs = search needs
+
+open-word-requires : tie.Need-open-word-requires
+open-word-requires c κs = few-nodes (c .before .before .before .before .args .state) (fits (c .before .before))
+
+open-count-requires : tie.Need-open-count-requires
+open-count-requires c κs = few-nodes (c .before .before .before .before .before .args .state) (fits (c .before .before .before))
+
+returns : tie.Need-returns
+returns c = reports (c .before .before .before .before .before .before .args .state) (fits (c .before .before .before .before)) _ (λ i. record { code = 0; word = c .before .open-word .ensures i; count = c .open-count .ensures i })
+
+returns-2 : tie.Need-returns-2
+unfolding reported
+returns-2 c = simp (sym (c .before .in-range .ensures) ∙ c .if1 .left)
+
+pub open-streams-spec : {M : Type 1} → statement M
+open-streams-spec =
+    tie.close (tie.spec in-range-requires open-word-requires open-count-requires returns returns-2)

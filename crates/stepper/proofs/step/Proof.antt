@@ -1,0 +1,44 @@
+-- `step` meets its contract. Assumes nothing.
+use mathlib.Core.Path.{_≡_, refl, sym, ap, _∙_}
+use mathlib.Core.Bool.{true}
+use Rattle.state.specs.Hold.{hold, represent, holdHistory}
+use Rattle.state.specs.Tidy.{stateFits}
+use Rattle.bridge.specs.Same.{tidy-same}
+use Rattle.bridge.proofs.Sizes.{sized}
+use Rattle.moves.specs.Bodies.{Leaves}
+use Rattle.stepper.specs.Public.{stepped}
+use Rattle.stepper.specs.Stepping.{ready, long, room-left, settles}
+use borrow.Author.Needs.{needs}
+use Rattle.stepper.proofs.step.Statement.{statement}
+use Rattle.stepper.proofs.step.Tie as tie
+
+-- the range test said yes
+fits : (c : tie.Then1) → stateFits (c .before .before .args .state) ≡ true
+fits c = sym (c .before .in-range .ensures) ∙ c .if1 .taken
+
+-- so the state is what it holds, written into structs
+same : (c : tie.Then1) → represent (hold (c .before .before .args .state)) ≡ c .before .before .args .state
+same c = tidy-same (c .before .before .args .state) (sized (c .before .before .args .state) _ (c .before .before .good .0)) (fits c)
+
+in-range-requires : tie.Need-in-range-requires
+in-range-requires c κs = search needs
+
+advance-requires : tie.Need-advance-requires
+advance-requires c κs = ready (c .before .before .before .before .args .state) (fits (c .before .before)) (same (c .before .before))
+
+settled-requires : tie.Need-settled-requires
+settled-requires c κs = room-left (c .before .before .before .before .before .args .state) (fits (c .before .before .before)) (same (c .before .before .before)) (c .before .before .before .before .before .args .kind) (c .before .before .before .before .before .args .node) (c .advance .result) (c .advance .ensures (holdHistory (c .before .before .before .before .before .args .state .history)) (long (c .before .before .before .before .before .args .state) (fits (c .before .before .before)) (same (c .before .before .before))))
+
+returns : tie.Need-returns
+returns c = 
+    c .settled .ensures
+    ∙ settles (c .before .before .before .before .before .before .args .state) (fits (c .before .before .before .before)) (same (c .before .before .before .before)) (c .before .before .before .before .before .before .args .kind) (c .before .before .before .before .before .before .args .node) (c .before .advance .result)
+    (c .before .advance .ensures (holdHistory (c .before .before .before .before .before .before .args .state .history)) (long (c .before .before .before .before .before .before .args .state) (fits (c .before .before .before .before)) (same (c .before .before .before .before))))
+
+returns-2 : tie.Need-returns-2
+unfolding stepped
+returns-2 c = simp (sym (c .before .in-range .ensures) ∙ c .if1 .left)
+
+pub step-spec : {M : Type 1} → statement M
+step-spec =
+    tie.close (tie.spec in-range-requires advance-requires settled-requires returns returns-2)

@@ -1,0 +1,38 @@
+#!/bin/sh
+# Shows that the comparison finds wrong libraries: each line of host/mutants.txt
+# puts one mistake into a copy of the reference, which then stands in for the
+# library. Prints a line a mistake and 'N found, M missed'.
+# Usage: host/mutants.sh, after host/test.sh.
+set -u
+cd "$(dirname "$0")/.." || exit 1
+. host/build.sh
+found=0
+missed=0
+
+# A copy of the reference with the mistake in it, under the library's name.
+build_mutant() {
+    rm -rf build/mutant
+    mkdir -p build/mutant
+    cp -r host/reference build/mutant/reference
+    sed -i "$2" "build/mutant/reference/$1"
+    ! cmp -s "host/reference/$1" "build/mutant/reference/$1" &&
+        stand_in build/mutant/reference build/mutant && use_library build/mutant/libhoefspanker.a &&
+        build_compare
+}
+
+out=build/mutants
+mkdir -p "$out"
+build_reference || exit 1
+while IFS='|' read -r mistake file edit; do
+    build_mutant "$file" "$edit" || exit 1
+    "$out/compare" 1 10000 >"$out/log" 2>&1
+    if [ $? -eq 1 ]; then
+        found=$((found + 1))
+        echo "found   $mistake: $(tail -1 "$out/log")"
+    else
+        missed=$((missed + 1))
+        echo "MISSED  $mistake"
+    fi
+done <host/mutants.txt
+echo "$found found, $missed missed"
+[ "$missed" -eq 0 ]

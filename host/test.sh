@@ -1,0 +1,91 @@
+#!/bin/sh
+# Builds the host programs and runs all tests of the C call.
+# Usage: host/test.sh [LIBRARY], with the path of libhoefspanker.a, by default the
+# one that `rt staticlib hoefspanker` writes; or host/test.sh stand-in, which takes
+# the reference in its place. Missing Debian packages are installed.
+set -u
+cd "$(dirname "$0")/.." || exit 1
+. host/build.sh
+library=${1:-target/staticlib/libhoefspanker.a}
+passed=0
+failed=0
+
+# test_that NAME COMMAND ..: one line, and the command's output if it fails.
+test_that() {
+    name=$1
+    shift
+    if "$@" >"$out/log" 2>&1; then
+        passed=$((passed + 1))
+        echo "ok      $name"
+    else
+        failed=$((failed + 1))
+        echo "FAILED  $name"
+        cat "$out/log"
+    fi
+}
+
+# need COMMAND PACKAGE: installs the package if the command is missing.
+need() {
+    command -v "$1" >/dev/null && return
+    apt-get install -y "$2" || { apt-get update && apt-get install -y "$2"; }
+}
+
+bytes_of() {
+    grep -v '^#' "examples/$1.hex" | xxd -r -p
+}
+
+# prints_as_expected EXAMPLE COMMAND ..: from standard input and from a file.
+prints_as_expected() {
+    example=$1
+    shift
+    bytes_of "$example" >"$out/list" &&
+        "$@" <"$out/list" >"$out/printed" && diff "$out/printed" "examples/$example.out" &&
+        "$@" "$out/list" >"$out/printed" && diff "$out/printed" "examples/$example.out"
+}
+
+# refuses_long COMMAND ..: one byte more than the longest list.
+refuses_long() {
+    head -c 65537 /dev/zero >"$out/list" &&
+        "$@" "$out/list" >"$out/printed" && echo 'refused 8' | diff "$out/printed" -
+}
+
+build_library() {
+    if [ "$library" = stand-in ]; then
+        stand_in host/reference "$out/stand-in" && use_library "$out/stand-in/libhoefspanker.a"
+    else
+        use_library "$library"
+    fi
+}
+
+# test_example NAME COMMAND ..: the C example, run by the command.
+test_example() {
+    by=$1
+    shift
+    for hex in examples/*.hex; do
+        example=$(basename "$hex" .hex)
+        test_that "$example, $by" prints_as_expected "$example" "$@"
+    done
+    test_that "list too long, $by" refuses_long "$@"
+}
+
+rm -rf "$out"
+mkdir -p "$out"
+need rustc rustc
+need gcc gcc
+need g++ g++
+need valgrind valgrind
+need xxd xxd
+test_that "library: $library" build_library
+test_that "reference built" build_reference
+test_that "unit tests of the reference" "$out/reference-test"
+test_that "comparison built" build_compare
+test_that "comparison with the reference" "$out/compare"
+test_that "C example built" build_example
+test_example valgrind valgrind -q --error-exitcode=9 --leak-check=full "$out/host"
+test_example sanitizers "$out/host-sanitized"
+test_that "C++ header built" build_header
+test_that "C++ header run" "$out/header"
+test_that "measurement built" build_bench
+test_that "measurement run" "$out/bench" 1
+echo "$passed passed, $failed failed"
+[ "$failed" -eq 0 ]
