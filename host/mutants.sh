@@ -26,13 +26,17 @@ build_reference || exit 1
 while IFS='|' read -r mistake file edit; do
     build_mutant "$file" "$edit" || exit 1
     "$out/compare" 1 10000 >"$out/log" 2>&1
-    if [ $? -eq 1 ]; then
-        found=$((found + 1))
-        echo "found   $mistake: $(tail -1 "$out/log")"
-    else
+    # 0 and 2 mean no difference; above that, the mistake ended the program.
+    case $? in
+    0 | 2)
         missed=$((missed + 1))
         echo "MISSED  $mistake"
-    fi
+        ;;
+    *)
+        found=$((found + 1))
+        echo "found   $mistake: $(tail -1 "$out/log")"
+        ;;
+    esac
 done <host/mutants.txt
 echo "$found found, $missed missed"
 [ "$missed" -eq 0 ]

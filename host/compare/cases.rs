@@ -84,13 +84,16 @@ fn full_history(walk: &mut Walk, nodes: u8) {
 }
 
 /// The replaced master of term 1 is the switch's master again after one of
-/// term 2 wrote, and writes.
+/// term 2 wrote, and writes; and once more after a restart.
 fn old_master(walk: &mut Walk) {
     lists::take_over(walk, 1);
     let _ = walk.take(SEND_WRITE, 1);
     lists::take_over(walk, 2);
     walk.take_all(2, &[SEND_WRITE, HANDLE_WRITE, CLOSE]);
     walk.take_all(1, &[HANDLE_WRITE, RECEIVE_UPDATE, RECEIVE_UPDATE, RECEIVE_WRITE]);
+    walk.take_all(0, &[SHUTDOWN, STARTUP]);
+    walk.take_all(1, &[CONNECT, SEND_UPDATE, HANDLE_UPDATE, RECEIVE_UPDATE]);
+    walk.take_all(1, &[SEND_WRITE, HANDLE_WRITE]);
 }
 
 fn scripted(random: &mut Random, nodes: u8, script: impl Fn(&mut Walk)) -> Case {

@@ -1,0 +1,150 @@
+// Steps through the small situations of the rules and prints the answer of each step.
+use libc::STDOUT_FILENO;
+use parts::Term;
+use state::State;
+use state::Write;
+
+// The steps of a list, kind and node by turns, from a state: the answers on one line. The state that they leave.
+fn play(from: State, steps: &[u8]) -> State {
+    let mut state = from;
+    let mut i: usize = 0;
+    while i + 1 < steps.len() {
+        let stepped = stepper::step(state, steps[i], steps[i + 1]);
+        io::write_all(STDOUT_FILENO, b" ");
+        io::print_decimal(STDOUT_FILENO, stepped.code as u64);
+        let next = stepped.state;
+        state = next;
+        i += 2;
+    }
+    io::write_all(STDOUT_FILENO, b"\n");
+    state
+}
+
+fn fresh(nodes: u8) -> State {
+    let made = stepper::fresh(nodes);
+    let state = made.state;
+    state
+}
+
+// The accepted writes, node and term of each, of which a list of this program has a few.
+fn print_writes(state: State) {
+    let history = state.history;
+    let len = history.len as usize;
+    let mut i: usize = 0;
+    while i < 8 {
+        if i < len {
+            let write = history.items[i];
+            io::write_all(STDOUT_FILENO, b"  wrote ");
+            io::print_decimal(STDOUT_FILENO, write.node as u64);
+            io::write_all(STDOUT_FILENO, b" in term ");
+            io::print_decimal(STDOUT_FILENO, write.term.0 as u64);
+            io::write_all(STDOUT_FILENO, b"\n");
+        }
+        i += 1;
+    }
+}
+
+fn print_open(state: State) {
+    let report = stepper::open_streams(state);
+    io::write_all(STDOUT_FILENO, b"  open: code ");
+    io::print_decimal(STDOUT_FILENO, report.code as u64);
+    io::write_all(STDOUT_FILENO, b" word ");
+    io::print_decimal(STDOUT_FILENO, report.word as u64);
+    io::write_all(STDOUT_FILENO, b" count ");
+    io::print_decimal(STDOUT_FILENO, report.count as u64);
+    io::write_all(STDOUT_FILENO, b"\n");
+}
+
+fn first_master_writes() {
+    io::write_all(STDOUT_FILENO, b"two nodes, the first becomes master and writes:");
+    let end = play(fresh(2), &[1, 1, 3, 1, 8, 1, 4, 1, 10, 1, 5, 1, 6, 1, 11, 1]);
+    print_writes(end);
+    print_open(end);
+}
+
+fn queues_fill() {
+    io::write_all(STDOUT_FILENO, b"one node, nothing learned, the ninth Join:");
+    let joins = [1, 1, 2, 1, 1, 1, 2, 1, 1, 1, 2, 1, 1, 1, 2, 1, 1, 1, 2, 1, 1, 1, 2, 1, 1, 1, 2, 1, 1, 1, 2, 1, 1, 1];
+    play(fresh(1), &joins);
+}
+
+// A fresh state of two nodes whose service is at a later term.
+fn at_term(term: Term) -> State {
+    let mut state = fresh(2);
+    let mut core = state.core;
+    let mut service = core.service;
+    service.term = term;
+    core.service = service;
+    state.core = core;
+    state
+}
+
+fn terms_end() {
+    io::write_all(STDOUT_FILENO, b"Join at term 10000:");
+    play(at_term(Term(10000)), &[1, 1]);
+    io::write_all(STDOUT_FILENO, b"Join at term 9999, Leave, Join:");
+    play(at_term(Term(9999)), &[1, 1, 2, 1, 1, 1]);
+}
+
+fn wrong_calls() {
+    io::write_all(STDOUT_FILENO, b"Connect twice, Shutdown with node 1, an unknown kind, an unknown node:");
+    play(fresh(2), &[8, 1, 8, 1, 12, 1, 14, 1, 0, 0, 1, 3, 1, 0]);
+    io::write_all(STDOUT_FILENO, b"a state of nine nodes:");
+    let mut wide = fresh(2);
+    wide.count = 9;
+    print_open(play(wide, &[1, 1]));
+    io::write_all(STDOUT_FILENO, b"fresh states of 0 and 9 nodes: ");
+    let none = stepper::fresh(0);
+    io::print_decimal(STDOUT_FILENO, none.code as u64);
+    io::write_all(STDOUT_FILENO, b" ");
+    let nine = stepper::fresh(9);
+    io::print_decimal(STDOUT_FILENO, nine.code as u64);
+    io::write_all(STDOUT_FILENO, b"\n");
+}
+
+fn ids_collide() {
+    io::write_all(STDOUT_FILENO, b"a first backup asks for the id of an older master; its stream closes:");
+    let steps = [1, 1, 3, 1, 8, 1, 4, 1, 10, 1, 1, 2, 1, 3, 2, 1, 3, 3, 3, 3, 3, 3, 3, 3, 8, 3, 4, 3, 10, 3, 9, 3, 8, 3];
+    print_open(play(fresh(3), &steps));
+}
+
+fn old_master_is_denied() {
+    io::write_all(STDOUT_FILENO, b"an old master is switch master again and is denied:");
+    let steps = [
+        1, 1, 1, 2, 3, 1, 3, 1, 8, 1, 4, 1, 10, 1, 5, 1, 2, 1, 3, 2, 3, 2, 3, 2, 8, 2, 4, 2, 10, 2, 5, 2, 6, 2, 11, 2, 9, 2,
+        6, 1, 11, 1, 5, 1, 5, 1, 7, 1,
+    ];
+    print_writes(play(fresh(2), &steps));
+}
+
+fn order_matters() {
+    io::write_all(STDOUT_FILENO, b"Learn 1 then Join 2:");
+    play(fresh(2), &[3, 1, 1, 2]);
+    io::write_all(STDOUT_FILENO, b"Join 2 then Learn 1:");
+    play(fresh(2), &[1, 2, 3, 1]);
+}
+
+fn history_is_full() {
+    io::write_all(STDOUT_FILENO, b"1024 writes held, one more:");
+    let mut full = fresh(2);
+    let mut history = full.history;
+    let write = Write {
+        node: 1,
+        term: Term(1),
+    };
+    history.items = [write; 1024];
+    history.len = 1024;
+    full.history = history;
+    play(full, &[1, 1, 3, 1, 8, 1, 4, 1, 10, 1, 5, 1, 6, 1, 11, 1]);
+}
+
+fn main() {
+    first_master_writes();
+    queues_fill();
+    terms_end();
+    wrong_calls();
+    ids_collide();
+    old_master_is_denied();
+    order_matters();
+    history_is_full();
+}
