@@ -2,25 +2,28 @@
 # Shows that the comparison finds wrong libraries: each line of host/mutants.txt
 # puts one mistake into a copy of the reference, which then stands in for the
 # library. Prints a line a mistake and 'N found, M missed'.
-# Usage: host/mutants.sh, after host/test.sh.
+# Takes some minutes.
 set -u
 cd "$(dirname "$0")/.." || exit 1
 . host/build.sh
+out=build/mutants
+mutant=$out/mutant
 found=0
 missed=0
 
 # A copy of the reference with the mistake in it, under the library's name.
 build_mutant() {
-    rm -rf build/mutant
-    mkdir -p build/mutant
-    cp -r host/reference build/mutant/reference
-    sed -i "$2" "build/mutant/reference/$1"
-    ! cmp -s "host/reference/$1" "build/mutant/reference/$1" &&
-        stand_in build/mutant/reference build/mutant && use_library build/mutant/libhoefspanker.a &&
-        build_compare
+    rm -rf "$mutant"
+    mkdir -p "$mutant"
+    cp -r host/reference "$mutant/reference"
+    sed -i "$2" "$mutant/reference/$1"
+    if cmp -s "host/reference/$1" "$mutant/reference/$1"; then
+        echo "the edit changes nothing: $2"
+        return 1
+    fi
+    stand_in "$mutant/reference" "$mutant" && use_library "$mutant/libhoefspanker.a" && build_compare
 }
 
-out=build/mutants
 mkdir -p "$out"
 build_reference || exit 1
 while IFS='|' read -r mistake file edit; do

@@ -27,7 +27,14 @@ test_that() {
 # need COMMAND PACKAGE: installs the package if the command is missing.
 need() {
     command -v "$1" >/dev/null && return
-    apt-get install -y "$2" || { apt-get update && apt-get install -y "$2"; }
+    apt-get install -y "$2" || { apt-get update && apt-get install -y "$2"; } || exit 1
+}
+
+# The counts as the last line, and the exit status.
+finish() {
+    echo "$passed passed, $failed failed"
+    [ "$failed" -eq 0 ]
+    exit
 }
 
 bytes_of() {
@@ -76,6 +83,7 @@ need g++ g++
 need valgrind valgrind
 need xxd xxd
 test_that "library: $library" build_library
+[ "$failed" -eq 0 ] || finish
 test_that "reference built" build_reference
 test_that "unit tests of the reference" "$out/reference-test"
 test_that "comparison built" build_compare
@@ -87,5 +95,4 @@ test_that "C++ header built" build_header
 test_that "C++ header run" "$out/header"
 test_that "measurement built" build_bench
 test_that "measurement run" "$out/bench" 1
-echo "$passed passed, $failed failed"
-[ "$failed" -eq 0 ]
+finish

@@ -45,8 +45,8 @@ impl Before {
         let head = if has_node { state.head_request(node) } else { None };
         match head {
             Some(Request::Update(id, _)) => {
-                let holder = state.ids.iter().position(|&held| held == id);
-                before.collides = holder.map_or(false, |holder| holder != row(node));
+                let mut ids = state.ids.iter().enumerate();
+                before.collides = ids.any(|(other, &held)| other != row(node) && held == id);
             }
             Some(Request::Write(id, _)) => {
                 before.accepted = state.accepts(node, id);

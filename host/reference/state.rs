@@ -61,22 +61,13 @@ pub fn row(node: u8) -> usize {
 
 impl Controller {
     pub fn fresh() -> Self {
-        Controller {
-            events: Queue::empty(),
-            learned: Mastership::BLANK,
-            device_says_master: false,
-        }
+        Controller { events: Queue::empty(), learned: Mastership::BLANK, device_says_master: false }
     }
 }
 
 impl Stream {
     pub fn closed() -> Self {
-        Stream {
-            open: false,
-            term: NO_TERM,
-            requests: Queue::empty(),
-            responses: Queue::empty(),
-        }
+        Stream { open: false, term: NO_TERM, requests: Queue::empty(), responses: Queue::empty() }
     }
 
     /// The first request, if the stream is open.

@@ -114,16 +114,17 @@ fn settled(history: History, moved: Moved, node: u8) -> Stepped
         core: core,
         history: history,
     };
+    let code = moved.code;
     if moved.accepted {
         let term = moved.term;
         state.history = append(history, Write { node: node, term: term });
         return Stepped {
-            code: moved.code,
+            code: code,
             state: state,
         };
     }
     Stepped {
-        code: moved.code,
+        code: code,
         state: state,
     }
 }

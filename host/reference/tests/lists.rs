@@ -3,9 +3,8 @@
 use crate::limits::{HISTORY_BYTES, LONGEST_LIST, TRAILER_BYTES};
 use crate::run;
 
-const SAMPLE: [u8; 28] = [
-    1, 1, 3, 1, 8, 1, 4, 1, 10, 1, 5, 1, 6, 1, 11, 1, 0, 0, 0, 0, 8, 0, 0, 0, 2, 0, 0x4D, 0x41,
-];
+const SAMPLE: [u8; 28] =
+    [1, 1, 3, 1, 8, 1, 4, 1, 10, 1, 5, 1, 6, 1, 11, 1, 0, 0, 0, 0, 8, 0, 0, 0, 2, 0, 0x4D, 0x41];
 const UNTOUCHED: u8 = 0xEE;
 
 fn run_into(list: &[u8], room: usize) -> (u32, Vec<u8>) {

@@ -53,9 +53,7 @@ fn response(held: Response) -> bool {
 
 fn stream(state: &State, row: usize) -> bool {
     let held = &state.streams[row];
-    let quiet = *held == Stream::closed()
-        && state.ids[row] == NO_ID
-        && state.terms[row] == NO_TERM;
+    let quiet = *held == Stream::closed() && state.ids[row] == NO_ID && state.terms[row] == NO_TERM;
     let numbers = term_at_least(0, held.term)
         && id_at_least(0, state.ids[row])
         && term_at_least(0, state.terms[row]);
@@ -72,9 +70,8 @@ fn switch(state: &State) -> bool {
 
 fn in_range(state: &State) -> bool {
     let used = usize::from(state.nodes);
-    let unused = |row: usize| {
-        state.controllers[row] == Controller::fresh() && !state.streams[row].open
-    };
+    let unused =
+        |row: usize| state.controllers[row] == Controller::fresh() && !state.streams[row].open;
     has_node(8, state.nodes)
         && service(state.nodes, &state.service)
         && state.controllers[..used].iter().all(|held| controller(state.nodes, held))

@@ -1,0 +1,13 @@
+// The call for a C host: see include/hoefspanker.h.
+ghost use mathlib.Core.Path.{_≡_};
+ghost use Rattle.runner.specs.Ran.{ran};
+
+// Runs a list from a fresh state: an answer for each record, the history behind the answers, and the bytes after it stay.
+// Returns 256 plus the number of writes. A refused list returns why, and leaves every byte of the buffer.
+#[no_mangle]
+pub extern "C" fn hoefspanker_run(list: &[u8], out: &mut [u8]) -> u32
+    ensures { λ r. ⌜ (r ≡ ran (now (list .entry)) (now (out .entry)) .returned)
+        × (now (out .exit) ≡ ran (now (list .entry)) (now (out .entry)) .out) ⌝ }
+{
+    runner::run(list, out)
+}

@@ -1,0 +1,4 @@
+pub mod Ran
+pub mod Refusing
+pub mod Advances
+pub mod Running
