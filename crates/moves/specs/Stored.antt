@@ -13,12 +13,13 @@ use Rattle.laws.specs.RangeTest.{range-sound}
 use Rattle.seqs.specs.Columns.{column}
 use Rattle.parts.specs.Hold.{packMastership}
 use Rattle.parts.specs.Ordered.{OrderedMastership}
+use Rattle.parts.specs.declared.Mastership.{Mastership}
 use Rattle.state.specs.Hold.{eventsAt, learnedAt, saysAt, nodeRow, streamRow, packNodes, packStreams, packClaims, packCore, holdCore, holdDesk, holdWire, represent}
 use Rattle.state.specs.Order.{OrderedNodes, OrderedWire, OrderedNode, OrderedStream, pastNode, pastStream}
 use Rattle.state.specs.Stores.{storeEvents, storeInbox, storeSent, storeSays, storeReceived, storeOpen, storeTelling, storeServing, packWire}
 use Rattle.state.specs.declared.Node.{Node}
 use Rattle.state.specs.declared.Stream.{Stream}
-use Rattle.state.specs.declared.Core.{Core}
+use Rattle.state.specs.declared.Claims.{Claims}
 use Rattle.state.specs.declared.Body.{Body}
 use Rattle.bridge.specs.InOrder.{ordered-nodes, ordered-wire, ordered-service}
 use Rattle.moves.specs.Bodies.{stateOf, bodyOf, Ready}
@@ -48,48 +49,44 @@ module _ (b : Body) (ready : Ready b) where
   unfolding represent
   in-order-service = subst (λ (x : Body). OrderedMastership (x .core .service)) (ready .same) (ordered-service (stateOf b []) (ready .fits))
 
+  service-same : b .core .service ≡ packMastership (heldCore .desk .service)
+  unfolding packCore
+  service-same = ap (λ (x : Body). x .core .service) (sym (ready .same))
+
+  nodes-same : b .core .nodes ≡ packNodes (heldCore .desk .events) (heldCore .learned) (heldCore .says)
+  unfolding packCore
+  nodes-same = ap (λ (x : Body). x .core .nodes) (sym (ready .same))
+
+  streams-same : b .core .streams ≡ packStreams (heldCore .wire)
+  unfolding packCore
+  streams-same = ap (λ (x : Body). x .core .streams) (sym (ready .same))
+
+  claims-same : b .core .claims ≡ packClaims (heldCore .wire)
+  unfolding packCore
+  claims-same = ap (λ (x : Body). x .core .claims) (sym (ready .same))
+
+  -- A body is that of a state if each of its four parts is.
+  body-is : (running : Bool) (c : S.Core) {service : Mastership} {nodes : List Node} {streams : List Stream} {claims : Claims}
+      → service ≡ packMastership (c .desk .service) → nodes ≡ packNodes (c .desk .events) (c .learned) (c .says) → streams ≡ packStreams (c .wire) → claims ≡ packClaims (c .wire)
+      → _≡_ {A = Body} (record { count = b .count; running = running; core = record { service = service; nodes = nodes; streams = streams; claims = claims } })
+      (record { count = b .count; running = running; core = packCore c })
+  unfolding packCore
+  body-is running c e f g h = λ i. record { count = b .count; running = running; core = record { service = e i; nodes = f i; streams = g i; claims = h i } }
+
   module _ (history : List S.Write) where
     -- ---- whole columns
 
     pub desk-stored : (d : S.Desk) → withDesk (packMastership (d .service)) (storeEvents (d .events) (b .count) (b .core .nodes)) b ≡ bodyOf (servicePart .put d (stateOf b history))
-    unfolding packCore holdCore
-    desk-stored d = λ i. record {
-      count = b .count;
-      running = b .running;
-      core = record {
-        service = packMastership (d .service);
-        nodes = packNodes (d .events) (column learnedAt (b .count) (b .core .nodes)) (column saysAt (b .count) (b .core .nodes));
-        streams = sym (ready .same) i .core .streams;
-        claims = sym (ready .same) i .core .claims;
-      };
-    }
+    unfolding holdCore
+    desk-stored d = body-is (b .running) _ refl refl streams-same claims-same
 
     pub telling-stored : (n : ℕ) (v : Telling) → let w = storeTelling n v (b .count) (b .core .streams) (b .core .claims) in
         withWire (b .running) (w .streams) (w .claims) b ≡ bodyOf (onDevice (tellPart n) .put v (stateOf b history))
-    unfolding packCore holdCore storeTelling
-    telling-stored n v = λ i. record {
-      count = b .count;
-      running = b .running;
-      core = record {
-        service = sym (ready .same) i .core .service;
-        nodes = sym (ready .same) i .core .nodes;
-        streams = storeTelling n v (b .count) (b .core .streams) (b .core .claims) .streams;
-        claims = storeTelling n v (b .count) (b .core .streams) (b .core .claims) .claims;
-      };
-    }
+    unfolding holdCore storeTelling
+    telling-stored n v = body-is (b .running) _ service-same nodes-same refl refl
 
     pub power-stored : (v : Power) → withWire (v .running) (packStreams (v .wire)) (packClaims (v .wire)) b ≡ bodyOf (onDevice powerPart .put v (stateOf b history))
-    unfolding packCore holdCore
-    power-stored v = λ i. record {
-      count = b .count;
-      running = v .running;
-      core = record {
-        service = sym (ready .same) i .core .service;
-        nodes = sym (ready .same) i .core .nodes;
-        streams = packStreams (v .wire);
-        claims = packClaims (v .wire);
-      };
-    }
+    power-stored v = body-is (v .running) _ service-same nodes-same refl refl
 
     -- ---- rows
 
@@ -112,91 +109,50 @@ module _ (b : Body) (ready : Ready b) where
       place : j < mostNodes
       place = let f = few in omega arith
 
-      nodes-same : packNodes events learned says ≡ b .core .nodes
-      nodes-same = in-order-nodes .same
-
-      streams-same : packStreams w ≡ b .core .streams
-      streams-same = in-order-wire .streams-same
-
       node-is : nodeOf b n ≡ nodeRow events learned says j
-      node-is = ap (λ (l : List Node). getD l j pastNode) (sym nodes-same) ∙ node-at events learned says j place
+      unfolding holdCore holdDesk
+      node-is = ap (λ (l : List Node). getD l j pastNode) nodes-same ∙ node-at events learned says j place
 
       stream-is : streamOf b n ≡ streamRow w j
-      stream-is = ap (λ (l : List Stream). getD l j pastStream) (sym streams-same) ∙ stream-at w j place
+      unfolding holdCore holdDesk
+      stream-is = ap (λ (l : List Stream). getD l j pastStream) streams-same ∙ stream-at w j place
 
       -- a row of an array, by the row of the table that it is
       in-nodes : (f : Node → Node) (l : List Node) → set (packNodes events learned says) j (f (nodeRow events learned says j)) ≡ l → set (b .core .nodes) j (f (nodeOf b n)) ≡ l
-      in-nodes f l e = ap₂ (λ (k : List Node) (r : Node). set k j (f r)) (sym nodes-same) node-is ∙ e
+      unfolding holdCore holdDesk
+      in-nodes f l e = ap₂ (λ (k : List Node) (r : Node). set k j (f r)) nodes-same node-is ∙ e
 
       in-streams : (f : Stream → Stream) (l : List Stream) → set (packStreams w) j (f (streamRow w j)) ≡ l → set (b .core .streams) j (f (streamOf b n)) ≡ l
-      in-streams f l e = ap₂ (λ (k : List Stream) (r : Stream). set k j (f r)) (sym streams-same) stream-is ∙ e
+      unfolding holdCore holdDesk
+      in-streams f l e = ap₂ (λ (k : List Stream) (r : Stream). set k j (f r)) streams-same stream-is ∙ e
 
       wide : {A : Type 0} (l : List A) → length l ≡ b .count → j < length l
       wide l e = let k : length l ≡ b .count = e in omega arith
 
       pub inbox-stored-at : (v : Inbox) → withNode n (storeInbox v (nodeOf b n)) b ≡ bodyOf (learnPart n .put v (stateOf b history))
-      unfolding packCore holdCore holdDesk
-      inbox-stored-at v = λ i. record {
-        count = b .count;
-        running = b .running;
-        core = record {
-          service = sym (ready .same) i .core .service;
-          nodes = in-nodes (storeInbox v) _ (inbox-stored events learned says j v (wide events (fits-core .desk .size)) (wide learned (fits-core .learned-size))) i;
-          streams = sym (ready .same) i .core .streams;
-          claims = sym (ready .same) i .core .claims;
-        };
-      }
+      unfolding holdCore holdDesk
+      inbox-stored-at v = body-is (b .running) _ service-same
+          (in-nodes (storeInbox v) _ (inbox-stored events learned says j v (wide events (fits-core .desk .size)) (wide learned (fits-core .learned-size)))) streams-same claims-same
 
       pub sent-stored-at : (v : Sent) → withStream n (storeSent v (streamOf b n)) b ≡ bodyOf (sendPart n .put v (stateOf b history))
-      unfolding packCore holdCore holdDesk packClaims
-      sent-stored-at v = λ i. record {
-        count = b .count;
-        running = b .running;
-        core = record {
-          service = sym (ready .same) i .core .service;
-          nodes = sym (ready .same) i .core .nodes;
-          streams = in-streams (storeSent v) _ (sent-stored w j v (wide (w .sent) (fits-core .wire .sent-size)) (wide (w .requests) (fits-core .wire .requests-size))) i;
-          claims = sym (ready .same) i .core .claims;
-        };
-      }
+      unfolding holdCore packClaims
+      sent-stored-at v = body-is (b .running) _ service-same nodes-same
+          (in-streams (storeSent v) _ (sent-stored w j v (wide (w .sent) (fits-core .wire .sent-size)) (wide (w .requests) (fits-core .wire .requests-size)))) claims-same
 
       pub received-stored-at : (v : Received)
           → withNode n (storeSays v (nodeOf b n)) (withStream n (storeReceived v (streamOf b n)) b) ≡ bodyOf (receivePart n .put v (stateOf b history))
-      unfolding packCore holdCore holdDesk packClaims
-      received-stored-at v = λ i. record {
-        count = b .count;
-        running = b .running;
-        core = record {
-          service = sym (ready .same) i .core .service;
-          nodes = in-nodes (storeSays v) _ (says-stored events learned says j v (wide says (fits-core .says-size))) i;
-          streams = in-streams (storeReceived v) _ (received-stored w j v (wide (w .responses) (fits-core .wire .responses-size))) i;
-          claims = sym (ready .same) i .core .claims;
-        };
-      }
+      unfolding holdCore holdDesk packClaims
+      received-stored-at v = body-is (b .running) _ service-same
+          (in-nodes (storeSays v) _ (says-stored events learned says j v (wide says (fits-core .says-size))))
+          (in-streams (storeReceived v) _ (received-stored w j v (wide (w .responses) (fits-core .wire .responses-size)))) claims-same
 
       pub open-stored-at : (v : Bool) → withStream n (storeOpen v (streamOf b n)) b ≡ bodyOf (onDevice (linkPart n) .put v (stateOf b history))
-      unfolding packCore holdCore holdDesk packClaims
-      open-stored-at v = λ i. record {
-        count = b .count;
-        running = b .running;
-        core = record {
-          service = sym (ready .same) i .core .service;
-          nodes = sym (ready .same) i .core .nodes;
-          streams = in-streams (storeOpen v) _ (open-stored w j v (wide (w .opens) (fits-core .wire .opens-size))) i;
-          claims = sym (ready .same) i .core .claims;
-        };
-      }
+      unfolding holdCore packClaims
+      open-stored-at v = body-is (b .running) _ service-same nodes-same (in-streams (storeOpen v) _ (open-stored w j v (wide (w .opens) (fits-core .wire .opens-size)))) claims-same
 
       pub serving-stored-at : (v : Serving)
           → withLast (record { 0 = v .last }) (withStream n (storeServing v (streamOf b n)) b) ≡ bodyOf (onDevice (servePart n) .put v (stateOf b history))
-      unfolding packCore holdCore holdDesk packClaims
-      serving-stored-at v = λ i. record {
-        count = b .count;
-        running = b .running;
-        core = record {
-          service = sym (ready .same) i .core .service;
-          nodes = sym (ready .same) i .core .nodes;
-          streams = in-streams (storeServing v) _ (serving-stored w j v (wide (w .requests) (fits-core .wire .requests-size)) (wide (w .responses) (fits-core .wire .responses-size))) i;
-          claims = record { ids = sym (ready .same) i .core .claims .ids; terms = sym (ready .same) i .core .claims .terms; last = record { 0 = v .last } };
-        };
-      }
+      unfolding holdCore packClaims
+      serving-stored-at v = body-is (b .running) _ service-same nodes-same
+          (in-streams (storeServing v) _ (serving-stored w j v (wide (w .requests) (fits-core .wire .requests-size)) (wide (w .responses) (fits-core .wire .responses-size))))
+          (λ i. record { ids = claims-same i .ids; terms = claims-same i .terms; last = record { 0 = v .last } })
