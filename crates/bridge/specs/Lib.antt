@@ -4,3 +4,4 @@ pub mod Same
 pub mod Held
 pub mod InOrder
 pub mod Passes
+pub mod Exact
