@@ -117,7 +117,13 @@ fn settled(history: History, moved: Moved, node: u8) -> Stepped
     let code = moved.code;
     if moved.accepted {
         let term = moved.term;
-        state.history = append(history, Write { node: node, term: term });
+        state.history = append(
+            history,
+            Write {
+                node: node,
+                term: term,
+            },
+        );
         return Stepped {
             code: code,
             state: state,

@@ -29,6 +29,6 @@ write-line-width node term n t =
     let x = width term 4 (omega arith) in
     simp length-append (omega arith)
 
-pub refused-line-width : (n : ℕ) → n < 100 → length (refusedLine n) ≤ 11
+pub refused-line-width : (n : ℕ) → n < 256 → length (refusedLine n) ≤ 12
 unfolding refusedLine
-refused-line-width n h = let w = width n 1 h in simp length-append (omega arith)
+refused-line-width n h = let w = width n 2 (omega arith) in simp length-append (omega arith)

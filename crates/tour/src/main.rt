@@ -56,15 +56,56 @@ fn print_open(state: State) {
 }
 
 fn first_master_writes() {
-    io::write_all(STDOUT_FILENO, b"two nodes, the first becomes master and writes:");
-    let end = play(fresh(2), &[1, 1, 3, 1, 8, 1, 4, 1, 10, 1, 5, 1, 6, 1, 11, 1]);
+    io::write_all(
+        STDOUT_FILENO,
+        b"two nodes, the first becomes master and writes:",
+    );
+    let end = play(
+        fresh(2),
+        &[1, 1, 3, 1, 8, 1, 4, 1, 10, 1, 5, 1, 6, 1, 11, 1],
+    );
     print_writes(end);
     print_open(end);
 }
 
 fn queues_fill() {
     io::write_all(STDOUT_FILENO, b"one node, nothing learned, the ninth Join:");
-    let joins = [1, 1, 2, 1, 1, 1, 2, 1, 1, 1, 2, 1, 1, 1, 2, 1, 1, 1, 2, 1, 1, 1, 2, 1, 1, 1, 2, 1, 1, 1, 2, 1, 1, 1];
+    let joins = [
+        1,
+        1,
+        2,
+        1,
+        1,
+        1,
+        2,
+        1,
+        1,
+        1,
+        2,
+        1,
+        1,
+        1,
+        2,
+        1,
+        1,
+        1,
+        2,
+        1,
+        1,
+        1,
+        2,
+        1,
+        1,
+        1,
+        2,
+        1,
+        1,
+        1,
+        2,
+        1,
+        1,
+        1,
+    ];
     play(fresh(1), &joins);
 }
 
@@ -87,7 +128,10 @@ fn terms_end() {
 }
 
 fn wrong_calls() {
-    io::write_all(STDOUT_FILENO, b"Connect twice, Shutdown with node 1, an unknown kind, an unknown node:");
+    io::write_all(
+        STDOUT_FILENO,
+        b"Connect twice, Shutdown with node 1, an unknown kind, an unknown node:",
+    );
     play(fresh(2), &[8, 1, 8, 1, 12, 1, 14, 1, 0, 0, 1, 3, 1, 0]);
     io::write_all(STDOUT_FILENO, b"a state of nine nodes:");
     let mut wide = fresh(2);
@@ -103,16 +147,103 @@ fn wrong_calls() {
 }
 
 fn ids_collide() {
-    io::write_all(STDOUT_FILENO, b"a first backup asks for the id of an older master; its stream closes:");
-    let steps = [1, 1, 3, 1, 8, 1, 4, 1, 10, 1, 1, 2, 1, 3, 2, 1, 3, 3, 3, 3, 3, 3, 3, 3, 8, 3, 4, 3, 10, 3, 9, 3, 8, 3];
+    io::write_all(
+        STDOUT_FILENO,
+        b"a first backup asks for the id of an older master; its stream closes:",
+    );
+    let steps = [
+        1,
+        1,
+        3,
+        1,
+        8,
+        1,
+        4,
+        1,
+        10,
+        1,
+        1,
+        2,
+        1,
+        3,
+        2,
+        1,
+        3,
+        3,
+        3,
+        3,
+        3,
+        3,
+        3,
+        3,
+        8,
+        3,
+        4,
+        3,
+        10,
+        3,
+        9,
+        3,
+        8,
+        3,
+    ];
     print_open(play(fresh(3), &steps));
 }
 
 fn old_master_is_denied() {
-    io::write_all(STDOUT_FILENO, b"an old master is switch master again and is denied:");
+    io::write_all(
+        STDOUT_FILENO,
+        b"an old master is switch master again and is denied:",
+    );
     let steps = [
-        1, 1, 1, 2, 3, 1, 3, 1, 8, 1, 4, 1, 10, 1, 5, 1, 2, 1, 3, 2, 3, 2, 3, 2, 8, 2, 4, 2, 10, 2, 5, 2, 6, 2, 11, 2, 9, 2,
-        6, 1, 11, 1, 5, 1, 5, 1, 7, 1,
+        1,
+        1,
+        1,
+        2,
+        3,
+        1,
+        3,
+        1,
+        8,
+        1,
+        4,
+        1,
+        10,
+        1,
+        5,
+        1,
+        2,
+        1,
+        3,
+        2,
+        3,
+        2,
+        3,
+        2,
+        8,
+        2,
+        4,
+        2,
+        10,
+        2,
+        5,
+        2,
+        6,
+        2,
+        11,
+        2,
+        9,
+        2,
+        6,
+        1,
+        11,
+        1,
+        5,
+        1,
+        5,
+        1,
+        7,
+        1,
     ];
     print_writes(play(fresh(2), &steps));
 }

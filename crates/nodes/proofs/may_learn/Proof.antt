@@ -11,7 +11,10 @@ element-copy-out-head : tie.Need-element-copy-out-head
 element-copy-out-head c = search needs
 
 returns-2 : tie.Need-returns-2
-returns-2 c = learn-some (c .before .before .before .before .before .before .args .node) (c .before .before .before .before .before .before .pre) (c .before .before .before .before .if1 .left)
+returns-2 c =
+    let at-if1 = c .before .before .before .before in
+    let start = at-if1 .before .before in
+    learn-some (start .args .node) (start .pre) (at-if1 .if1 .left)
 
 pub may-learn-spec : {M : Type 1} → statement M
 may-learn-spec = tie.close (tie.spec returns element-copy-out-head returns-2)

@@ -14,7 +14,11 @@ is-write-requires : tie.Need-is-write-requires
 is-write-requires c κs = search needs
 
 returns-2 : tie.Need-returns-2
-returns-2 c = waits-some (c .before .before .before .before .before .args .stream) (c .before .before .before .before .before .pre) (c .before .before .before .before .if1 .taken) (c .before .before .if2 .left) (c .is-write .result) (c .is-write .ensures) .1
+returns-2 c =
+    let at-if2 = c .before .before in
+    let at-if1 = at-if2 .before .before in
+    let start = at-if1 .before in
+    waits-some (start .args .stream) (start .pre) (at-if1 .if1 .taken) (at-if2 .if2 .left) (c .is-write .result) (c .is-write .ensures) .1
 
 returns-3 : tie.Need-returns-3
 returns-3 c = waits-closed (c .before .args .stream) (c .before .pre) (c .if1 .left) .1

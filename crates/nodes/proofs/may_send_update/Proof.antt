@@ -14,7 +14,11 @@ names-requires c κs = search needs
 
 returns : tie.Need-returns
 unfolding sendUpdateRule
-returns c = simp (c .before .before .before .before .if1 .taken, lt-ltb _ _ (c .before .if2 .taken), lt-ltb 0 (c .before .before .before .before .before .before .args .node .learned .term .0) (omega arith)) (c .names .ensures)
+returns c =
+    let at-if2 = c .before in
+    let at-if1 = at-if2 .before .before .before in
+    let start = at-if1 .before .before in
+    simp (at-if1 .if1 .taken, lt-ltb _ _ (at-if2 .if2 .taken), lt-ltb 0 (start .args .node .learned .term .0) (omega arith)) (c .names .ensures)
 
 returns-2 : tie.Need-returns-2
 returns-2 c = let a = c .before .before .before .before .before .args in update-sent (a .count) (a .number) (a .node) (a .stream) (c .if2 .left)

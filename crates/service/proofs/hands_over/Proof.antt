@@ -12,7 +12,10 @@ use Rattle.service.proofs.hands_over.Tie as tie
 
 returns : tie.Need-returns
 unfolding handsOver
-returns c = simp (eq-eqb _ _ (c .before .if1 .taken)) (some-taken (c .before .before .before .args .service .count) (c .before .before .before .args .service .backups) (simp length-map at (c .before .before .before .good .0 .1 .1 .1 .1 .0 .1 .0 .1)))
+returns c =
+    let at-if1 = c .before in
+    let start = at-if1 .before .before in
+    simp (eq-eqb _ _ (at-if1 .if1 .taken)) (some-taken (start .args .service .count) (start .args .service .backups) (simp length-map at (start .good .0 .1 .1 .1 .1 .0 .1 .0 .1)))
 
 returns-2 : tie.Need-returns-2
 unfolding handsOver

@@ -8,28 +8,44 @@ use Rattle.service.proofs.join_code.Tie as tie
 
 returns : tie.Need-returns
 unfolding holdDesk
-returns c = let a = c .before .before .before .before .args in join-spent (a .number) (holdDesk (a .count) (a .service) (a .nodes)) (c .before .before .if1 .taken) (c .if2 .taken)
+returns c =
+    let at-if1 = c .before .before in
+    let start = at-if1 .before .before in
+    let a = start .args in join-spent (a .number) (holdDesk (a .count) (a .service) (a .nodes)) (at-if1 .if1 .taken) (c .if2 .taken)
 
 post-code-requires : tie.Need-post-code-requires
 post-code-requires c κs = search needs
 
 returns-2 : tie.Need-returns-2
 unfolding holdDesk
-returns-2 c = let a = c .before .before .before .before .before .args in c .post-code .ensures ∙ join-vacant (a .number) (holdDesk (a .count) (a .service) (a .nodes)) (c .before .before .before .if1 .taken) (c .before .if2 .left)
+returns-2 c =
+    let at-if2 = c .before in
+    let at-if1 = at-if2 .before .before in
+    let start = at-if1 .before .before in
+    let a = start .args in c .post-code .ensures ∙ join-vacant (a .number) (holdDesk (a .count) (a .service) (a .nodes)) (at-if1 .if1 .taken) (at-if2 .if2 .left)
 
 names-requires : tie.Need-names-requires
 names-requires c κs = search needs
 
 returns-3 : tie.Need-returns-3
 unfolding holdDesk
-returns-3 c = let a = c .before .before .before .before .args in join-named (a .number) (holdDesk (a .count) (a .service) (a .nodes)) (c .before .before .if1 .left) (sym (c .before .names .ensures) ∙ c .if3 .taken)
+returns-3 c =
+    let at-names = c .before in
+    let at-if1 = at-names .before in
+    let start = at-if1 .before .before in
+    let a = start .args in join-named (a .number) (holdDesk (a .count) (a .service) (a .nodes)) (at-if1 .if1 .left) (sym (at-names .names .ensures) ∙ c .if3 .taken)
 
 post-code-requires-2 : tie.Need-post-code-requires-2
 post-code-requires-2 c κs = search needs
 
 returns-4 : tie.Need-returns-4
 unfolding holdDesk
-returns-4 c = let a = c .before .before .before .before .before .args in c .post-code2 .ensures ∙ join-backup (a .number) (holdDesk (a .count) (a .service) (a .nodes)) (c .before .before .before .if1 .left) (sym (c .before .before .names .ensures) ∙ c .before .if3 .left)
+returns-4 c =
+    let at-if3 = c .before in
+    let at-names = at-if3 .before in
+    let at-if1 = at-names .before in
+    let start = at-if1 .before .before in
+    let a = start .args in c .post-code2 .ensures ∙ join-backup (a .number) (holdDesk (a .count) (a .service) (a .nodes)) (at-if1 .if1 .left) (sym (at-names .names .ensures) ∙ at-if3 .if3 .left)
 
 pub join-code-spec : {M : Type 1} → statement M
 join-code-spec =

@@ -19,13 +19,22 @@ cast-at : tie.Need-cast-at
 cast-at c = search needs
 
 element-write-next : tie.Need-element-write-next
-element-write-next c = let start = c .before .before .before in let s = start .pre .spare (c .before .if1 .left) in let n = backups-count (start .args .service) (start .pre .ordered) in omega arith
+element-write-next c =
+    let at-if1 = c .before in
+    let at-before = at-if1 .before in
+    let start = at-before .before in let s = start .pre .spare (at-if1 .if1 .left) in let n = backups-count (start .args .service) (start .pre .ordered) in omega arith
 
 add-next : tie.Need-add-next
-add-next c = let start = c .before .before .before .before in let s = start .pre .spare (c .before .before .if1 .left) in let n = backups-count (start .args .service) (start .pre .ordered) in search needs
+add-next c =
+    let at-if1 = c .before .before in
+    let at-before = at-if1 .before in
+    let start = at-before .before in let s = start .pre .spare (at-if1 .if1 .left) in let n = backups-count (start .args .service) (start .pre .ordered) in search needs
 
 returns-2 : tie.Need-returns-2
-returns-2 c = let start = c .before .before .before .before in joined-backup (start .args .service) (start .pre .ordered) (start .args .number) (c .before .before .if1 .left) (start .pre .spare (c .before .before .if1 .left))
+returns-2 c =
+    let at-if1 = c .before .before in
+    let at-before = at-if1 .before in
+    let start = at-before .before in joined-backup (start .args .service) (start .pre .ordered) (start .args .number) (at-if1 .if1 .left) (start .pre .spare (at-if1 .if1 .left))
 
 pub joined-spec : {M : Type 1} → statement M
 joined-spec = tie.close (tie.spec add-t6 returns cast-at element-write-next add-next returns-2)

@@ -14,18 +14,36 @@ hands-over-requires c κs = search needs
 
 returns : tie.Need-returns
 unfolding holdDesk
-returns c = let a = c .before .before .before .before .before .before .args in leave-spent (a .number) (holdDesk (a .count) (a .service) (a .nodes)) (sym (c .before .before .before .before .before .names .ensures) ∙ c .before .before .before .before .if1 .taken) (sym (c .before .before .before .hands-over .ensures) ∙ c .before .before .if2 .taken) (c .if3 .taken)
+returns c =
+    let at-if2 = c .before .before in
+    let at-hands-over = at-if2 .before in
+    let at-if1 = at-hands-over .before in
+    let at-names = at-if1 .before in
+    let start = at-names .before in
+    let a = start .args in leave-spent (a .number) (holdDesk (a .count) (a .service) (a .nodes)) (sym (at-names .names .ensures) ∙ at-if1 .if1 .taken) (sym (at-hands-over .hands-over .ensures) ∙ at-if2 .if2 .taken) (c .if3 .taken)
 
 post-code-requires : tie.Need-post-code-requires
 post-code-requires c κs = search needs
 
 returns-2 : tie.Need-returns-2
 unfolding holdDesk
-returns-2 c = let a = c .before .before .before .before .before .before .before .args in c .post-code .ensures ∙ leave-posts (a .number) (holdDesk (a .count) (a .service) (a .nodes)) (sym (c .before .before .before .before .before .before .names .ensures) ∙ c .before .before .before .before .before .if1 .taken) (sym (c .before .before .before .before .hands-over .ensures) ∙ c .before .before .before .if2 .taken) (c .before .if3 .left)
+returns-2 c =
+    let at-if3 = c .before in
+    let at-if2 = at-if3 .before .before in
+    let at-hands-over = at-if2 .before in
+    let at-if1 = at-hands-over .before in
+    let at-names = at-if1 .before in
+    let start = at-names .before in
+    let a = start .args in c .post-code .ensures ∙ leave-posts (a .number) (holdDesk (a .count) (a .service) (a .nodes)) (sym (at-names .names .ensures) ∙ at-if1 .if1 .taken) (sym (at-hands-over .hands-over .ensures) ∙ at-if2 .if2 .taken) (at-if3 .if3 .left)
 
 returns-3 : tie.Need-returns-3
 unfolding holdDesk
-returns-3 c = let a = c .before .before .before .before .args in leave-quiet (a .number) (holdDesk (a .count) (a .service) (a .nodes)) (sym (c .before .before .before .names .ensures) ∙ c .before .before .if1 .taken) (sym (c .before .hands-over .ensures) ∙ c .if2 .left)
+returns-3 c =
+    let at-hands-over = c .before in
+    let at-if1 = at-hands-over .before in
+    let at-names = at-if1 .before in
+    let start = at-names .before in
+    let a = start .args in leave-quiet (a .number) (holdDesk (a .count) (a .service) (a .nodes)) (sym (at-names .names .ensures) ∙ at-if1 .if1 .taken) (sym (at-hands-over .hands-over .ensures) ∙ c .if2 .left)
 
 returns-4 : tie.Need-returns-4
 unfolding holdDesk

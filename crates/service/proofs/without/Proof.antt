@@ -58,7 +58,10 @@ skip-requires : tie.Need-skip-requires Inv-loop μ-loop
 skip-requires c κs = let k = sizes (c .before .before .before) in let s = few (c .before .before .before) in omega arith
 
 element-copy-out-backups : tie.Need-element-copy-out-backups Inv-loop μ-loop
-element-copy-out-backups c = let k = sizes (c .before .before .before .before) in let s = few (c .before .before .before .before) in let f = c .skip .ensures in let e = skip-below (c .before .before .loop .i) (c .before .before .before .place-of .result - 1) in omega arith
+element-copy-out-backups c =
+    let at-loop = c .before .before in
+    let at-before = at-loop .before in
+    let k = sizes (at-before .before) in let s = few (at-before .before) in let f = c .skip .ensures in let e = skip-below (at-loop .loop .i) (at-before .place-of .result - 1) in omega arith
 
 array-write-backups : tie.Need-array-write-backups Inv-loop μ-loop
 array-write-backups c = let k = sizes (c .before .before .before .before .before) in let s = few (c .before .before .before .before .before) in omega arith

@@ -66,16 +66,24 @@ returns-3 : tie.Need-returns-3
 returns-3 c = λ history long. reached (c .before .before) learns (ap kindOf (c .before .match .keys3)) refl history (c .learn .result) (c .learn .ensures history)
 
 returns-4 : tie.Need-returns-4
-returns-4 c = λ history long. reached (c .before .before) sendUpdate (ap kindOf (c .before .match .keys4)) refl history (c .send-update .result) (c .send-update .ensures history)
+returns-4 c = λ history long.
+    let at-before = c .before in
+    reached (at-before .before) sendUpdate (ap kindOf (at-before .match .keys4)) refl history (c .send-update .result) (c .send-update .ensures history)
 
 returns-5 : tie.Need-returns-5
-returns-5 c = λ history long. reached (c .before .before) receiveUpdate (ap kindOf (c .before .match .keys5)) refl history (c .receive-update .result) (c .receive-update .ensures history)
+returns-5 c = λ history long.
+    let at-before = c .before in
+    reached (at-before .before) receiveUpdate (ap kindOf (at-before .match .keys5)) refl history (c .receive-update .result) (c .receive-update .ensures history)
 
 returns-6 : tie.Need-returns-6
-returns-6 c = λ history long. reached (c .before .before) sendWrite (ap kindOf (c .before .match .keys6)) refl history (c .send-write .result) (c .send-write .ensures history)
+returns-6 c = λ history long.
+    let at-before = c .before in
+    reached (at-before .before) sendWrite (ap kindOf (at-before .match .keys6)) refl history (c .send-write .result) (c .send-write .ensures history)
 
 returns-7 : tie.Need-returns-7
-returns-7 c = λ history long. reached (c .before .before) receiveWrite (ap kindOf (c .before .match .keys7)) refl history (c .receive-write .result) (c .receive-write .ensures history)
+returns-7 c = λ history long.
+    let at-before = c .before in
+    reached (at-before .before) receiveWrite (ap kindOf (at-before .match .keys7)) refl history (c .receive-write .result) (c .receive-write .ensures history)
 
 returns-8 : tie.Need-returns-8
 returns-8 c = λ history long. reached (c .before .before) connect (ap kindOf (c .before .match .keys8)) refl history (c .connect .result) (c .connect .ensures history)
@@ -84,15 +92,19 @@ returns-9 : tie.Need-returns-9
 returns-9 c = λ history long. reached (c .before .before) close (ap kindOf (c .before .match .keys9)) refl history (c .close .result) (c .close .ensures history)
 
 returns-10 : tie.Need-returns-10
-returns-10 c = λ history long. reached (c .before .before) handleUpdate (ap kindOf (c .before .match .keys10)) refl history (c .handle-update .result) (c .handle-update .ensures history)
+returns-10 c = λ history long.
+    let at-before = c .before in
+    reached (at-before .before) handleUpdate (ap kindOf (at-before .match .keys10)) refl history (c .handle-update .result) (c .handle-update .ensures history)
 
 returns-11 : tie.Need-returns-11
 returns-11 c = λ history long.
-    let x = c .before .before .args .kind in
-    let high = c .before .before .pre .2 in
-    let low : 11 ≤ x = (above 10 x (above 9 x (above 8 x (above 7 x (above 6 x (above 5 x (above 4 x (above 3 x (above 2 x (above 1 x (c .before .before .pre .1) (c .before .match .rest .0 .0 .0 .0 .0 .0 .0 .0 .0 .1)) (c .before .match .rest .0 .0 .0 .0 .0 .0 .0 .0 .1)) (c .before .match .rest .0 .0 .0 .0 .0 .0 .0 .1)) (c .before .match .rest .0 .0 .0 .0 .0 .0 .1)) (c .before .match .rest .0 .0 .0 .0 .0 .1)) (c .before .match .rest .0 .0 .0 .0 .1)) (c .before .match .rest .0 .0 .0 .1)) (c .before .match .rest .0 .0 .1)) (c .before .match .rest .0 .1)) (c .before .match .rest .1)) in
+    let at-match = c .before in
+    let start = at-match .before in
+    let x = start .args .kind in
+    let high = start .pre .2 in
+    let low : 11 ≤ x = (above 10 x (above 9 x (above 8 x (above 7 x (above 6 x (above 5 x (above 4 x (above 3 x (above 2 x (above 1 x (start .pre .1) (at-match .match .rest .0 .0 .0 .0 .0 .0 .0 .0 .0 .1)) (at-match .match .rest .0 .0 .0 .0 .0 .0 .0 .0 .1)) (at-match .match .rest .0 .0 .0 .0 .0 .0 .0 .1)) (at-match .match .rest .0 .0 .0 .0 .0 .0 .1)) (at-match .match .rest .0 .0 .0 .0 .0 .1)) (at-match .match .rest .0 .0 .0 .0 .1)) (at-match .match .rest .0 .0 .0 .1)) (at-match .match .rest .0 .0 .1)) (at-match .match .rest .0 .1)) (at-match .match .rest .1)) in
     let e : x ≡ 11 = omega arith in
-    reached (c .before .before) handleWrite (ap kindOf e) refl history (c .handle-write .result) (c .handle-write .ensures history long)
+    reached (at-match .before) handleWrite (ap kindOf e) refl history (c .handle-write .result) (c .handle-write .ensures history long)
 
 pub at-node-spec : {M : Type 1} → statement M
 at-node-spec =

@@ -21,7 +21,11 @@ empty-requires-3 c κs = search needs
 
 returns : tie.Need-returns
 unfolding packCore fresh packNodes packStreams packClaims
-returns c = λ count. simp (c .before .before .before .blank .ensures, c .before .before .empty .ensures, c .before .empty2 .ensures, c .empty3 .ensures) (blank-core count)
+returns c =
+    let at-empty2 = c .before in
+    let at-empty = at-empty2 .before in
+    let at-blank = at-empty .before in
+    λ count. simp (at-blank .blank .ensures, at-empty .empty .ensures, at-empty2 .empty2 .ensures, c .empty3 .ensures) (blank-core count)
 
 pub blank-core-spec : {M : Type 1} → statement M
 blank-core-spec =

@@ -12,11 +12,11 @@ blank-core-requires c κs = search needs
 returns : tie.Need-returns
 unfolding blankState represent packHistory
 returns c = λ i. record {
-      count = c .before .args .count;
-      running = c .before .args .running;
-      core = c .blank-core .ensures (c .before .args .count) i;
-      history = record { items = no-history i; len = 0 };
-    }
+  count = c .before .args .count;
+  running = c .before .args .running;
+  core = c .blank-core .ensures (c .before .args .count) i;
+  history = record { items = no-history i; len = 0 };
+}
 
 pub blank-state-spec : {M : Type 1} → statement M
 blank-state-spec = tie.close (tie.spec blank-core-requires returns)

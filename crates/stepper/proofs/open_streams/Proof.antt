@@ -23,7 +23,11 @@ open-count-requires : tie.Need-open-count-requires
 open-count-requires c κs = few-nodes (c .before .before .before .before .before .args .state) (fits (c .before .before .before))
 
 returns : tie.Need-returns
-returns c = reports (c .before .before .before .before .before .before .args .state) (fits (c .before .before .before .before)) _ (λ i. record { code = 0; word = c .before .open-word .ensures i; count = c .open-count .ensures i })
+returns c =
+    let at-open-word = c .before in
+    let at-before = at-open-word .before .before in
+    let start = at-before .before .before .before in
+    reports (start .args .state) (fits (at-before .before)) _ (λ i. record { code = 0; word = at-open-word .open-word .ensures i; count = c .open-count .ensures i })
 
 returns-2 : tie.Need-returns-2
 unfolding reported

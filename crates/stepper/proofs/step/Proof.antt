@@ -27,13 +27,21 @@ advance-requires : tie.Need-advance-requires
 advance-requires c κs = ready (c .before .before .before .before .args .state) (fits (c .before .before)) (same (c .before .before))
 
 settled-requires : tie.Need-settled-requires
-settled-requires c κs = room-left (c .before .before .before .before .before .args .state) (fits (c .before .before .before)) (same (c .before .before .before)) (c .before .before .before .before .before .args .kind) (c .before .before .before .before .before .args .node) (c .advance .result) (c .advance .ensures (holdHistory (c .before .before .before .before .before .args .state .history)) (long (c .before .before .before .before .before .args .state) (fits (c .before .before .before)) (same (c .before .before .before))))
+settled-requires c κs =
+    let at-before = c .before .before in
+    let start = at-before .before .before .before in
+    let s = start .args .state in
+    room-left s (fits (at-before .before)) (same (at-before .before)) (start .args .kind) (start .args .node) (c .advance .result) (c .advance .ensures (holdHistory (s .history)) (long s (fits (at-before .before)) (same (at-before .before))))
 
 returns : tie.Need-returns
-returns c = 
+returns c =
+    let at-advance = c .before in
+    let at-before = at-advance .before .before in
+    let start = at-before .before .before .before in
+    let s = start .args .state in
     c .settled .ensures
-    ∙ settles (c .before .before .before .before .before .before .args .state) (fits (c .before .before .before .before)) (same (c .before .before .before .before)) (c .before .before .before .before .before .before .args .kind) (c .before .before .before .before .before .before .args .node) (c .before .advance .result)
-    (c .before .advance .ensures (holdHistory (c .before .before .before .before .before .before .args .state .history)) (long (c .before .before .before .before .before .before .args .state) (fits (c .before .before .before .before)) (same (c .before .before .before .before))))
+    ∙ settles s (fits (at-before .before)) (same (at-before .before)) (start .args .kind) (start .args .node) (at-advance .advance .result)
+    (at-advance .advance .ensures (holdHistory (s .history)) (long s (fits (at-before .before)) (same (at-before .before))))
 
 returns-2 : tie.Need-returns-2
 unfolding stepped

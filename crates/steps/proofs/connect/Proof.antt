@@ -35,14 +35,23 @@ plain-requires c κs = search needs
 returns : tie.Need-returns
 unfolding connectRule
 returns c = λ history.
-    link-yes (c .before .before .before .before .before .before .before .args .body) (c .before .before .before .before .before .before .before .args .number) (c .before .before .before .before .before .before .before .pre) history connectRule (sym (c .before .before .before .before .connect-code .ensures) ∙ c .before .before .before .if1 .taken) (c .before .before .connect .result) (c .before .before .connect .ensures)
-    (c .plain .result) (c .plain .ensures ∙ ap (plain stepDone) (c .before .with-stream .ensures))
+    let at-with-stream = c .before in
+    let at-connect = at-with-stream .before in
+    let at-if1 = at-connect .before in
+    let at-connect-code = at-if1 .before in
+    let start = at-connect-code .before .before .before in
+    link-yes (start .args .body) (start .args .number) (start .pre) history connectRule (sym (at-connect-code .connect-code .ensures) ∙ at-if1 .if1 .taken) (at-connect .connect .result) (at-connect .connect .ensures)
+    (c .plain .result) (c .plain .ensures ∙ ap (plain stepDone) (at-with-stream .with-stream .ensures))
 
 plain-requires-2 : tie.Need-plain-requires-2
 plain-requires-2 c κs = search needs
 
 returns-2 : tie.Need-returns-2
-returns-2 c = λ history. link-no (c .before .before .before .before .before .args .body) (c .before .before .before .before .before .args .number) (c .before .before .before .before .before .pre) history connectRule (c .before .before .connect-code .result) (c .before .before .connect-code .ensures) (c .before .if1 .left) (c .plain2 .result) (c .plain2 .ensures)
+returns-2 c = λ history.
+    let at-if1 = c .before in
+    let at-connect-code = at-if1 .before in
+    let start = at-connect-code .before .before .before in
+    link-no (start .args .body) (start .args .number) (start .pre) history connectRule (at-connect-code .connect-code .result) (at-connect-code .connect-code .ensures) (at-if1 .if1 .left) (c .plain2 .result) (c .plain2 .ensures)
 
 pub connect-spec : {M : Type 1} → statement M
 connect-spec =

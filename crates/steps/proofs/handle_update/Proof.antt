@@ -15,7 +15,12 @@ handle-update-code-requires : tie.Need-handle-update-code-requires
 handle-update-code-requires c κs = at-wire (c .before .before .before .args .body) (c .before .before .before .args .number) (c .before .before .before .pre)
 
 handle-update-requires : tie.Need-handle-update-requires
-handle-update-requires c κs = update-tells (c .before .before .before .before .before .args .body .count) (c .before .before .before .before .before .args .number) (c .before .before .before .before .before .args .body .running) (c .before .before .before .before .before .args .body .core .streams) (c .before .before .before .before .before .args .body .core .claims) (at-wire (c .before .before .before .before .before .args .body) (c .before .before .before .before .before .args .number) (c .before .before .before .before .before .pre)) (sym (c .before .handle-update-code .ensures) ∙ c .if1 .taken)
+handle-update-requires c κs =
+    let at-handle-update-code = c .before in
+    let start = at-handle-update-code .before .before .before .before in
+    let b = start .args .body in
+    let n = start .args .number in
+    update-tells (b .count) n (b .running) (b .core .streams) (b .core .claims) (at-wire b n (start .pre)) (sym (at-handle-update-code .handle-update-code .ensures) ∙ c .if1 .taken)
 
 with-wire-requires : tie.Need-with-wire-requires
 with-wire-requires c κs = search needs
@@ -25,16 +30,27 @@ plain-requires c κs = search needs
 
 returns : tie.Need-returns
 returns c = λ history.
-    let b = c .before .before .before .before .before .before .before .before .args .body in
-    tell-yes (c .before .before .before .before .before .before .before .before .args .body) (c .before .before .before .before .before .before .before .before .args .number) (c .before .before .before .before .before .before .before .before .pre) history (handleUpdateRule (c .before .before .before .before .before .before .before .before .args .number)) (sym (c .before .before .before .before .handle-update-code .ensures) ∙ c .before .before .before .if1 .taken) (c .before .before .handle-update .result)
-    (c .before .before .handle-update .ensures ∙ ap (λ (v : Telling). storeTelling (c .before .before .before .before .before .before .before .before .args .number) v (b .count) (b .core .streams) (b .core .claims)) (update-effect (c .before .before .before .before .before .before .before .before .args .body .count) (c .before .before .before .before .before .before .before .before .args .number) (c .before .before .before .before .before .before .before .before .args .body .running) (c .before .before .before .before .before .before .before .before .args .body .core .streams) (c .before .before .before .before .before .before .before .before .args .body .core .claims)))
-    (c .plain .result) (c .plain .ensures ∙ ap (plain stepDone) (c .before .with-wire .ensures))
+    let at-with-wire = c .before in
+    let at-handle-update = at-with-wire .before in
+    let at-if1 = at-handle-update .before in
+    let at-handle-update-code = at-if1 .before in
+    let start = at-handle-update-code .before .before .before .before in
+    let n = start .args .number in
+    let b = start .args .body in
+    tell-yes b n (start .pre) history (handleUpdateRule n) (sym (at-handle-update-code .handle-update-code .ensures) ∙ at-if1 .if1 .taken) (at-handle-update .handle-update .result)
+    (at-handle-update .handle-update .ensures ∙ ap (λ (v : Telling). storeTelling n v (b .count) (b .core .streams) (b .core .claims)) (update-effect (b .count) n (b .running) (b .core .streams) (b .core .claims)))
+    (c .plain .result) (c .plain .ensures ∙ ap (plain stepDone) (at-with-wire .with-wire .ensures))
 
 plain-requires-2 : tie.Need-plain-requires-2
 plain-requires-2 c κs = search needs
 
 returns-2 : tie.Need-returns-2
-returns-2 c = λ history. tell-no (c .before .before .before .before .before .before .args .body) (c .before .before .before .before .before .before .args .number) (c .before .before .before .before .before .before .pre) history (handleUpdateRule (c .before .before .before .before .before .before .args .number)) (c .before .before .handle-update-code .result) (c .before .before .handle-update-code .ensures) (c .before .if1 .left) (c .plain2 .result) (c .plain2 .ensures)
+returns-2 c = λ history.
+    let at-if1 = c .before in
+    let at-handle-update-code = at-if1 .before in
+    let start = at-handle-update-code .before .before .before .before in
+    let n = start .args .number in
+    tell-no (start .args .body) n (start .pre) history (handleUpdateRule n) (at-handle-update-code .handle-update-code .result) (at-handle-update-code .handle-update-code .ensures) (at-if1 .if1 .left) (c .plain2 .result) (c .plain2 .ensures)
 
 pub handle-update-spec : {M : Type 1} → statement M
 handle-update-spec =

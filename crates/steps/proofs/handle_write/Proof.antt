@@ -36,7 +36,12 @@ handle-write-code-requires : tie.Need-handle-write-code-requires
 handle-write-code-requires c κs = at-stream (c .before .before .before .args .body) (c .before .before .before .args .number) (c .before .before .before .pre)
 
 handle-write-requires : tie.Need-handle-write-requires
-handle-write-requires c κs = write-can (c .before .before .before .before .before .args .body .count) (c .before .before .before .before .before .args .number) (c .before .before .before .before .before .args .body .running) (streamOf (c .before .before .before .before .before .args .body) (c .before .before .before .before .before .args .number)) (c .before .before .before .before .before .args .body .core .claims) (c .before .before .before .before .before .args .writes) (at-stream (c .before .before .before .before .before .args .body) (c .before .before .before .before .before .args .number) (c .before .before .before .before .before .pre)) (sym (c .before .handle-write-code .ensures) ∙ c .if1 .taken)
+handle-write-requires c κs =
+    let at-handle-write-code = c .before in
+    let start = at-handle-write-code .before .before .before .before in
+    let b = start .args .body in
+    let n = start .args .number in
+    write-can (b .count) n (b .running) (streamOf b n) (b .core .claims) (start .args .writes) (at-stream b n (start .pre)) (sym (at-handle-write-code .handle-write-code .ensures) ∙ c .if1 .taken)
 
 with-stream-requires : tie.Need-with-stream-requires
 with-stream-requires c κs = search needs
@@ -47,16 +52,21 @@ with-last-requires c κs = search needs
 returns : tie.Need-returns
 unfolding storeHandled
 returns c = λ history long.
-    let b = c .before .before .before .before .before .before .before .before .before .before .before .args .body in
-    let n = c .before .before .before .before .before .before .before .before .before .before .before .args .number in
+    let at-with-stream = c .before in
+    let at-handle-write = at-with-stream .before .before .before .before in
+    let at-if1 = at-handle-write .before in
+    let at-handle-write-code = at-if1 .before in
+    let start = at-handle-write-code .before .before .before .before in
+    let b = start .args .body in
+    let n = start .args .number in
     let rule = handleWriteRule n in
     let v = servedOf (b .count) n (b .running) (streamOf b n) (b .core .claims) (length history) in
     let z : answerOf (decide rule v) ≡ stepDone =
-    ap (λ (k : ℕ). answerOf (decide rule (servedOf (b .count) n (b .running) (streamOf b n) (b .core .claims) k))) long ∙ sym (c .before .before .before .before .before .before .before .handle-write-code .ensures) ∙ c .before .before .before .before .before .before .if1 .taken in
-    let done : c .before .before .before .before .before .handle-write .result ≡ storeHandled (rule .effect v) (streamOf b n) =
-    c .before .before .before .before .before .handle-write .ensures ∙ ap (λ (w : Serving). storeHandled w (streamOf b n)) (write-effect (c .before .before .before .before .before .before .before .before .before .before .before .args .body .count) (c .before .before .before .before .before .before .before .before .before .before .before .args .number) (c .before .before .before .before .before .before .before .before .before .before .before .args .body .running) (streamOf (c .before .before .before .before .before .before .before .before .before .before .before .args .body) (c .before .before .before .before .before .before .before .before .before .before .before .args .number)) (c .before .before .before .before .before .before .before .before .before .before .before .args .body .core .claims) (length history)) in
-    serve-yes b n (c .before .before .before .before .before .before .before .before .before .before .before .pre) history rule (passes rule v z) _ refl
-    (c .with-last .ensures ∙ ap (withLast (c .before .before .before .before .before .handle-write .result .last)) (c .before .with-stream .ensures)
+    ap (λ (k : ℕ). answerOf (decide rule (servedOf (b .count) n (b .running) (streamOf b n) (b .core .claims) k))) long ∙ sym (at-handle-write-code .handle-write-code .ensures) ∙ at-if1 .if1 .taken in
+    let done : at-handle-write .handle-write .result ≡ storeHandled (rule .effect v) (streamOf b n) =
+    at-handle-write .handle-write .ensures ∙ ap (λ (w : Serving). storeHandled w (streamOf b n)) (write-effect (b .count) n (b .running) (streamOf b n) (b .core .claims) (length history)) in
+    serve-yes b n (start .pre) history rule (passes rule v z) _ refl
+    (c .with-last .ensures ∙ ap (withLast (at-handle-write .handle-write .result .last)) (at-with-stream .with-stream .ensures)
     ∙ ap (λ (h : Handled). withLast (h .last) (withStream n (h .stream) b)) done)
     (sym (accepted-back n v (streamOf b n)) ∙ ap (acceptedOf n) (sym done))
 
@@ -65,11 +75,14 @@ plain-requires c κs = search needs
 
 returns-2 : tie.Need-returns-2
 returns-2 c = λ history long.
-    let b = c .before .before .before .before .before .before .args .body in
-    let n = c .before .before .before .before .before .before .args .number in
-    serve-no b n (c .before .before .before .before .before .before .pre) history (handleWriteRule n) (c .before .before .handle-write-code .result)
-    (c .before .before .handle-write-code .ensures ∙ ap (λ (k : ℕ). answerOf (decide (handleWriteRule n) (servedOf (b .count) n (b .running) (streamOf b n) (b .core .claims) k))) (sym long))
-    (c .before .if1 .left) (c .plain .result) (c .plain .ensures)
+    let at-if1 = c .before in
+    let at-handle-write-code = at-if1 .before in
+    let start = at-handle-write-code .before .before .before .before in
+    let b = start .args .body in
+    let n = start .args .number in
+    serve-no b n (start .pre) history (handleWriteRule n) (at-handle-write-code .handle-write-code .result)
+    (at-handle-write-code .handle-write-code .ensures ∙ ap (λ (k : ℕ). answerOf (decide (handleWriteRule n) (servedOf (b .count) n (b .running) (streamOf b n) (b .core .claims) k))) (sym long))
+    (at-if1 .if1 .left) (c .plain .result) (c .plain .ensures)
 
 pub handle-write-spec : {M : Type 1} → statement M
 handle-write-spec =

@@ -23,7 +23,9 @@ may-learn-requires : tie.Need-may-learn-requires
 may-learn-requires c κs = node-ordered (c .before .before .args .body) (c .before .before .args .number) (c .before .before .pre)
 
 learn-requires : tie.Need-learn-requires
-learn-requires c κs = node-ordered (c .before .before .before .before .args .body) (c .before .before .before .before .args .number) (c .before .before .before .before .pre)
+learn-requires c κs =
+    let start = c .before .before .before .before in
+    node-ordered (start .args .body) (start .args .number) (start .pre)
 
 with-node-requires : tie.Need-with-node-requires
 with-node-requires c κs = search needs
@@ -33,14 +35,23 @@ plain-requires c κs = search needs
 
 returns : tie.Need-returns
 returns c = λ history.
-    learn-yes (c .before .before .before .before .before .before .before .args .body) (c .before .before .before .before .before .before .before .args .number) (c .before .before .before .before .before .before .before .pre) history (sym (c .before .before .before .before .may-learn .ensures) ∙ c .before .before .before .if1 .taken) (c .before .before .learn .result) (c .before .before .learn .ensures)
-    (c .plain .result) (c .plain .ensures ∙ ap (plain stepDone) (c .before .with-node .ensures))
+    let at-with-node = c .before in
+    let at-learn = at-with-node .before in
+    let at-if1 = at-learn .before in
+    let at-may-learn = at-if1 .before in
+    let start = at-may-learn .before .before .before in
+    learn-yes (start .args .body) (start .args .number) (start .pre) history (sym (at-may-learn .may-learn .ensures) ∙ at-if1 .if1 .taken) (at-learn .learn .result) (at-learn .learn .ensures)
+    (c .plain .result) (c .plain .ensures ∙ ap (plain stepDone) (at-with-node .with-node .ensures))
 
 plain-requires-2 : tie.Need-plain-requires-2
 plain-requires-2 c κs = search needs
 
 returns-2 : tie.Need-returns-2
-returns-2 c = λ history. learn-no (c .before .before .before .before .before .args .body) (c .before .before .before .before .before .args .number) (c .before .before .before .before .before .pre) history (sym (c .before .before .may-learn .ensures) ∙ c .before .if1 .left) (c .plain2 .result) (c .plain2 .ensures)
+returns-2 c = λ history.
+    let at-if1 = c .before in
+    let at-may-learn = at-if1 .before in
+    let start = at-may-learn .before .before .before in
+    learn-no (start .args .body) (start .args .number) (start .pre) history (sym (at-may-learn .may-learn .ensures) ∙ at-if1 .if1 .left) (c .plain2 .result) (c .plain2 .ensures)
 
 pub learn-spec : {M : Type 1} → statement M
 learn-spec =

@@ -13,7 +13,10 @@ leave-code-requires : tie.Need-leave-code-requires
 leave-code-requires c κs = in-order-nodes (c .before .before .before .args .body) (c .before .before .before .pre .ready)
 
 left-requires : tie.Need-left-requires
-left-requires c κs = leaving (c .before .before .before .before .before .args .body) (c .before .before .before .before .before .args .number) (c .before .before .before .before .before .pre) (sym (c .before .leave-code .ensures) ∙ c .if1 .taken)
+left-requires c κs =
+    let at-leave-code = c .before in
+    let start = at-leave-code .before .before .before .before in
+    leaving (start .args .body) (start .args .number) (start .pre) (sym (at-leave-code .leave-code .ensures) ∙ c .if1 .taken)
 
 hands-over-requires : tie.Need-hands-over-requires
 hands-over-requires c κs = search needs
@@ -34,8 +37,16 @@ plain-requires c κs = search needs
 
 returns : tie.Need-returns
 returns c = λ history.
-    leave-posts (c .before .before .before .before .before .before .before .before .before .before .before .args .body) (c .before .before .before .before .before .before .before .before .before .before .before .args .number) (c .before .before .before .before .before .before .before .before .before .before .before .pre) (sym (c .before .before .before .before .before .before .before .leave-code .ensures) ∙ c .before .before .before .before .before .before .if1 .taken) (sym (c .before .before .before .before .hands-over .ensures) ∙ c .before .before .before .if2 .taken) history (c .before .before .before .before .before .left .result) (c .before .before .before .before .before .left .ensures)
-    (c .before .before .post .result) (c .before .before .post .ensures) (c .plain .result) (c .plain .ensures ∙ ap (plain stepDone) (c .before .with-desk .ensures))
+    let at-with-desk = c .before in
+    let at-post = at-with-desk .before in
+    let at-if2 = at-post .before in
+    let at-hands-over = at-if2 .before in
+    let at-left = at-hands-over .before in
+    let at-if1 = at-left .before in
+    let at-leave-code = at-if1 .before in
+    let start = at-leave-code .before .before .before .before in
+    leave-posts (start .args .body) (start .args .number) (start .pre) (sym (at-leave-code .leave-code .ensures) ∙ at-if1 .if1 .taken) (sym (at-hands-over .hands-over .ensures) ∙ at-if2 .if2 .taken) history (at-left .left .result) (at-left .left .ensures)
+    (at-post .post .result) (at-post .post .ensures) (c .plain .result) (c .plain .ensures ∙ ap (plain stepDone) (at-with-desk .with-desk .ensures))
 
 with-desk-requires-2 : tie.Need-with-desk-requires-2
 with-desk-requires-2 c κs = search needs
@@ -45,14 +56,26 @@ plain-requires-2 c κs = search needs
 
 returns-2 : tie.Need-returns-2
 returns-2 c = λ history.
-    leave-quiet (c .before .before .before .before .before .before .before .before .before .before .args .body) (c .before .before .before .before .before .before .before .before .before .before .args .number) (c .before .before .before .before .before .before .before .before .before .before .pre) (sym (c .before .before .before .before .before .before .leave-code .ensures) ∙ c .before .before .before .before .before .if1 .taken) (sym (c .before .before .before .hands-over .ensures) ∙ c .before .before .if2 .left) history (c .before .before .before .before .left .result) (c .before .before .before .before .left .ensures)
-    (c .plain2 .result) (c .plain2 .ensures ∙ ap (plain stepDone) (c .before .with-desk2 .ensures))
+    let at-with-desk2 = c .before in
+    let at-if2 = at-with-desk2 .before in
+    let at-hands-over = at-if2 .before in
+    let at-left = at-hands-over .before in
+    let at-if1 = at-left .before in
+    let at-leave-code = at-if1 .before in
+    let start = at-leave-code .before .before .before .before in
+    leave-quiet (start .args .body) (start .args .number) (start .pre) (sym (at-leave-code .leave-code .ensures) ∙ at-if1 .if1 .taken) (sym (at-hands-over .hands-over .ensures) ∙ at-if2 .if2 .left) history (at-left .left .result) (at-left .left .ensures)
+    (c .plain2 .result) (c .plain2 .ensures ∙ ap (plain stepDone) (at-with-desk2 .with-desk2 .ensures))
 
 plain-requires-3 : tie.Need-plain-requires-3
 plain-requires-3 c κs = search needs
 
 returns-3 : tie.Need-returns-3
-returns-3 c = λ history. service-no (c .before .before .before .before .before .before .args .body) (c .before .before .before .before .before .before .args .number) (c .before .before .before .before .before .before .pre) (leaveRule (c .before .before .before .before .before .before .args .number)) history (c .before .before .leave-code .result) (c .before .before .leave-code .ensures) (c .before .if1 .left) (c .plain3 .result) (c .plain3 .ensures)
+returns-3 c = λ history.
+    let at-if1 = c .before in
+    let at-leave-code = at-if1 .before in
+    let start = at-leave-code .before .before .before .before in
+    let n = start .args .number in
+    service-no (start .args .body) n (start .pre) (leaveRule n) history (at-leave-code .leave-code .result) (at-leave-code .leave-code .ensures) (at-if1 .if1 .left) (c .plain3 .result) (c .plain3 .ensures)
 
 pub leave-spec : {M : Type 1} → statement M
 leave-spec =

@@ -34,10 +34,15 @@ may-receive-update-requires : tie.Need-may-receive-update-requires
 may-receive-update-requires c κs = stream-ordered (c .before .before .before .args .body) (c .before .before .before .args .number) (c .before .before .before .pre)
 
 confirmed-requires : tie.Need-confirmed-requires
-confirmed-requires c κs = waits (c .before .before .before .before .before .args .body) (c .before .before .before .before .before .args .number) (c .before .before .before .before .before .pre) (sym (c .before .may-receive-update .ensures) ∙ c .if1 .taken)
+confirmed-requires c κs =
+    let at-may-receive-update = c .before in
+    let start = at-may-receive-update .before .before .before .before in
+    waits (start .args .body) (start .args .number) (start .pre) (sym (at-may-receive-update .may-receive-update .ensures) ∙ c .if1 .taken)
 
 receive-requires : tie.Need-receive-requires
-receive-requires c κs = stream-ordered (c .before .before .before .before .before .before .args .body) (c .before .before .before .before .before .before .args .number) (c .before .before .before .before .before .before .pre)
+receive-requires c κs =
+    let start = c .before .before .before .before .before .before in
+    stream-ordered (start .args .body) (start .args .number) (start .pre)
 
 with-stream-requires : tie.Need-with-stream-requires
 with-stream-requires c κs = search needs
@@ -50,19 +55,30 @@ plain-requires c κs = search needs
 
 returns : tie.Need-returns
 returns c = λ history.
-    let b = c .before .before .before .before .before .before .before .before .before .before .args .body in
-    let n = c .before .before .before .before .before .before .before .before .before .before .args .number in
-    let told : Node = record { events = nodeOf b n .events; learned = nodeOf b n .learned; says = c .before .before .before .before .confirmed .result } in
-    receive-update-yes b n (c .before .before .before .before .before .before .before .before .before .before .pre) history (sym (c .before .before .before .before .before .before .may-receive-update .ensures) ∙ c .before .before .before .before .before .if1 .taken)
-    told (λ i. record { events = nodeOf b n .events; learned = nodeOf b n .learned; says = c .before .before .before .before .confirmed .ensures i })
-    (c .before .before .before .receive .result) (c .before .before .before .receive .ensures)
-    (c .plain .result) (c .plain .ensures ∙ ap (plain stepDone) (c .before .with-node .ensures ∙ ap (withNode n told) (c .before .before .with-stream .ensures)))
+    let at-with-node = c .before in
+    let at-with-stream = at-with-node .before in
+    let at-receive = at-with-stream .before in
+    let at-confirmed = at-receive .before in
+    let at-if1 = at-confirmed .before in
+    let at-may-receive-update = at-if1 .before in
+    let start = at-may-receive-update .before .before .before .before in
+    let b = start .args .body in
+    let n = start .args .number in
+    let told : Node = record { events = nodeOf b n .events; learned = nodeOf b n .learned; says = at-confirmed .confirmed .result } in
+    receive-update-yes b n (start .pre) history (sym (at-may-receive-update .may-receive-update .ensures) ∙ at-if1 .if1 .taken)
+    told (λ i. record { events = nodeOf b n .events; learned = nodeOf b n .learned; says = at-confirmed .confirmed .ensures i })
+    (at-receive .receive .result) (at-receive .receive .ensures)
+    (c .plain .result) (c .plain .ensures ∙ ap (plain stepDone) (at-with-node .with-node .ensures ∙ ap (withNode n told) (at-with-stream .with-stream .ensures)))
 
 plain-requires-2 : tie.Need-plain-requires-2
 plain-requires-2 c κs = search needs
 
 returns-2 : tie.Need-returns-2
-returns-2 c = λ history. receive-update-no (c .before .before .before .before .before .before .args .body) (c .before .before .before .before .before .before .args .number) (c .before .before .before .before .before .before .pre) history (sym (c .before .before .may-receive-update .ensures) ∙ c .before .if1 .left) (c .plain2 .result) (c .plain2 .ensures)
+returns-2 c = λ history.
+    let at-if1 = c .before in
+    let at-may-receive-update = at-if1 .before in
+    let start = at-may-receive-update .before .before .before .before in
+    receive-update-no (start .args .body) (start .args .number) (start .pre) history (sym (at-may-receive-update .may-receive-update .ensures) ∙ at-if1 .if1 .left) (c .plain2 .result) (c .plain2 .ensures)
 
 pub receive-update-spec : {M : Type 1} → statement M
 receive-update-spec =

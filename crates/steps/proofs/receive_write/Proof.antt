@@ -23,7 +23,9 @@ may-receive-write-requires : tie.Need-may-receive-write-requires
 may-receive-write-requires c κs = stream-ordered (c .before .before .args .body) (c .before .before .args .number) (c .before .before .pre)
 
 receive-requires : tie.Need-receive-requires
-receive-requires c κs = stream-ordered (c .before .before .before .before .args .body) (c .before .before .before .before .args .number) (c .before .before .before .before .pre)
+receive-requires c κs =
+    let start = c .before .before .before .before in
+    stream-ordered (start .args .body) (start .args .number) (start .pre)
 
 with-stream-requires : tie.Need-with-stream-requires
 with-stream-requires c κs = search needs
@@ -33,14 +35,23 @@ plain-requires c κs = search needs
 
 returns : tie.Need-returns
 returns c = λ history.
-    receive-write-yes (c .before .before .before .before .before .before .before .args .body) (c .before .before .before .before .before .before .before .args .number) (c .before .before .before .before .before .before .before .pre) history (sym (c .before .before .before .before .may-receive-write .ensures) ∙ c .before .before .before .if1 .taken) (c .before .before .receive .result) (c .before .before .receive .ensures)
-    (c .plain .result) (c .plain .ensures ∙ ap (plain stepDone) (c .before .with-stream .ensures))
+    let at-with-stream = c .before in
+    let at-receive = at-with-stream .before in
+    let at-if1 = at-receive .before in
+    let at-may-receive-write = at-if1 .before in
+    let start = at-may-receive-write .before .before .before in
+    receive-write-yes (start .args .body) (start .args .number) (start .pre) history (sym (at-may-receive-write .may-receive-write .ensures) ∙ at-if1 .if1 .taken) (at-receive .receive .result) (at-receive .receive .ensures)
+    (c .plain .result) (c .plain .ensures ∙ ap (plain stepDone) (at-with-stream .with-stream .ensures))
 
 plain-requires-2 : tie.Need-plain-requires-2
 plain-requires-2 c κs = search needs
 
 returns-2 : tie.Need-returns-2
-returns-2 c = λ history. receive-write-no (c .before .before .before .before .before .args .body) (c .before .before .before .before .before .args .number) (c .before .before .before .before .before .pre) history (sym (c .before .before .may-receive-write .ensures) ∙ c .before .if1 .left) (c .plain2 .result) (c .plain2 .ensures)
+returns-2 c = λ history.
+    let at-if1 = c .before in
+    let at-may-receive-write = at-if1 .before in
+    let start = at-may-receive-write .before .before .before in
+    receive-write-no (start .args .body) (start .args .number) (start .pre) history (sym (at-may-receive-write .may-receive-write .ensures) ∙ at-if1 .if1 .left) (c .plain2 .result) (c .plain2 .ensures)
 
 pub receive-write-spec : {M : Type 1} → statement M
 receive-write-spec =

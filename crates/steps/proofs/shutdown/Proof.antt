@@ -19,8 +19,12 @@ plain-requires c κs = search needs
 
 returns : tie.Need-returns
 returns c = λ history.
-    shutdown-yes (c .before .before .before .before .before .before .before .args .body) (c .before .before .before .before .before .before .before .pre) history (c .before .before .before .before .before .before .if1 .taken) (c .before .before .shutdown .result) (c .before .before .shutdown .ensures)
-    (c .plain .result) (c .plain .ensures ∙ ap (plain stepDone) (c .before .with-wire .ensures))
+    let at-with-wire = c .before in
+    let at-shutdown = at-with-wire .before in
+    let at-if1 = at-shutdown .before .before .before .before in
+    let start = at-if1 .before in
+    shutdown-yes (start .args .body) (start .pre) history (at-if1 .if1 .taken) (at-shutdown .shutdown .result) (at-shutdown .shutdown .ensures)
+    (c .plain .result) (c .plain .ensures ∙ ap (plain stepDone) (at-with-wire .with-wire .ensures))
 
 plain-requires-2 : tie.Need-plain-requires-2
 plain-requires-2 c κs = search needs
