@@ -14,6 +14,7 @@ use borrow.Author.Tests.{eq-eqb, ne-eqb, le-leb, lt-leb}
 use Rattle.rules.specs.State.{Mastership}
 use Rattle.rules.specs.Queues.{before, has}
 use Rattle.rules.specs.Ids.{named, placeOf}
+use Rattle.seqs.specs.Search.{has-before}
 
 -- A loop has passed the first i of the list.
 module _ (n : ℕ) (l : List ℕ) (i : ℕ) (passed : before n l ≡ i + before n (drop i l)) where
@@ -40,19 +41,10 @@ same-leb a b a′ b′ f g = go (decLe a b)
     go (yes h) = le-leb a b h ∙ sym (le-leb a′ b′ (f h))
     go (no h) = lt-leb a b (omega arith) ∙ sym (lt-leb a′ b′ (let z : ¬ (a′ ≤ b′) = λ k. h (g k) in omega arith))
 
-has-before : (n : ℕ) (l : List ℕ) → has n l ≡ leb (before n l + 1) (length l)
-unfolding has before
-has-before n [] = refl
-has-before n (x ∷ l) = go (ℕ-discrete n x) (has-before n l)
-  where
-    go : Dec (n ≡ x) → has n l ≡ leb (before n l + 1) (length l) → (eqb n x || has n l) ≡ leb (cond (eqb n x) 0 (suc (before n l)) + 1) (suc (length l))
-    go (yes e) h = simp (eq-eqb n x e) (sym (le-leb 1 (suc (length l)) (omega arith)))
-    go (no z) h = simp (ne-eqb n x z) (h ∙ same-leb (before n l + 1) (length l) (suc (before n l) + 1) (suc (length l)) (λ k. omega arith) (λ k. omega arith))
-
 pub named-place : (n : ℕ) (m : Mastership) → named n m ≡ leb (placeOf n m) (length (m .backups))
 unfolding named placeOf
 named-place n m = go (ℕ-discrete (m .master) n)
   where
     go : Dec (m .master ≡ n) → (eqb (m .master) n || has n (m .backups)) ≡ leb (cond (eqb (m .master) n) 0 (before n (m .backups) + 1)) (length (m .backups))
     go (yes e) = simp (eq-eqb (m .master) n e) (sym (le-leb 0 (length (m .backups)) (omega arith)))
-    go (no z) = simp (ne-eqb (m .master) n z) (has-before n (m .backups))
+    go (no z) = simp (ne-eqb (m .master) n z) (has-before n (m .backups) ∙ ap (λ (k : ℕ). leb k (length (m .backups))) (sym (add-one (before n (m .backups)))))

@@ -5,7 +5,8 @@ use Prim.Native.Nat.{ℕ, zero, suc, _+_, _-_, _<_, _≤_}
 use native.Mathlib.Nat.{le-of-suc-le-suc}
 use native.Mathlib.Numerals.{add-one}
 use native.Mathlib.Omega.{arith}
-use lib.ListN.{length, getD, set, take}
+use lib.ListN.{length, getD, set, take, drop, drop-of-length-le}
+use lib.Seq.{drop-cons}
 use Rattle.rules.specs.Queues.{push}
 
 module _ {A B : Type 0} (f : A → B) where
@@ -40,3 +41,14 @@ module _ {A B : Type 0} (f : A → B) where
   column-set (suc n) i [] x = refl
   column-set (suc n) zero (y ∷ l) x = refl
   column-set (suc n) (suc i) (y ∷ l) x = ap (λ (t : List B). f y ∷ t) (column-set n i l x)
+
+-- What a loop that has passed i rows has left of a column.
+module _ {A B : Type 0} (f : A → B) (n : ℕ) (l : List A) (d : A) (fits : n ≤ length l) where
+  -- the row at i, and then the rest
+  pub left-more : (i : ℕ) → i < n → drop i (column f n l) ≡ f (getD l i d) ∷ drop (i + 1) (column f n l)
+  left-more i h =
+      let k = length-column f n l fits in
+      rw (add-one i) (drop-cons (column f n l) i (f d) (omega arith) ∙ ap (λ (x : B). x ∷ drop (suc i) (column f n l)) (column-at f n i l d h))
+
+  pub left-none : (i : ℕ) → n ≤ i → drop i (column f n l) ≡ []
+  left-none i h = let k = length-column f n l fits in drop-of-length-le (column f n l) {i = i} (omega arith)

@@ -4,3 +4,4 @@ pub mod Tables
 pub mod Padded
 pub mod Queue
 pub mod Rows
+pub mod Search

@@ -6,9 +6,9 @@ use native.Mathlib.Omega.{arith}
 use lib.ListN.{length, drop, getD}
 use borrow.Author.Needs.{needs}
 use Rattle.rules.specs.Queues.{before}
-use Rattle.seqs.specs.Columns.{column}
+use Rattle.seqs.specs.Columns.{column, left-more, left-none}
 use Rattle.state.specs.Hold.{idAt}
-use Rattle.switch.proofs.Passing.{left-more, left-none, before-cons, before-first, before-none}
+use Rattle.switch.proofs.Passing.{before-cons, before-first, before-none}
 use Rattle.switch.proofs.before_id.Statement.{statement}
 use Rattle.switch.proofs.before_id.Tie as tie
 

@@ -9,7 +9,7 @@ use Rattle.rules.specs.Queues.{before}
 use Rattle.rules.specs.Election.{taken}
 use Rattle.seqs.specs.Columns.{column, length-column, column-set}
 use Rattle.state.specs.Hold.{idAt}
-use Rattle.switch.proofs.Passing.{has-before}
+use Rattle.seqs.specs.Search.{has-before}
 use Rattle.switch.proofs.is_taken.Statement.{statement}
 use Rattle.switch.proofs.is_taken.Tie as tie
 

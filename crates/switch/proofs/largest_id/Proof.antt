@@ -6,9 +6,9 @@ use native.Mathlib.Omega.{arith}
 use lib.ListN.{length, drop}
 use borrow.Author.Needs.{needs}
 use Rattle.rules.specs.Election.{largest}
-use Rattle.seqs.specs.Columns.{column}
+use Rattle.seqs.specs.Columns.{column, left-more, left-none}
 use Rattle.state.specs.Hold.{idAt}
-use Rattle.switch.proofs.Passing.{left-more, left-none, largest-cons, largest-none}
+use Rattle.switch.proofs.Passing.{largest-cons, largest-none}
 use Rattle.switch.proofs.largest_id.Statement.{statement}
 use Rattle.switch.proofs.largest_id.Tie as tie
 

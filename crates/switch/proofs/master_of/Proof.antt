@@ -9,7 +9,7 @@ use Rattle.rules.specs.Queues.{before}
 use Rattle.rules.specs.Election.{masterOf}
 use Rattle.seqs.specs.Columns.{column, length-column}
 use Rattle.state.specs.Hold.{idAt}
-use Rattle.switch.proofs.Passing.{before-le}
+use Rattle.seqs.specs.Search.{before-le}
 use Rattle.switch.proofs.master_of.Statement.{statement}
 use Rattle.switch.proofs.master_of.Tie as tie
 

@@ -10,12 +10,12 @@ use borrow.Author.Needs.{needs}
 use Rattle.rules.specs.Limits.{queueLength}
 use Rattle.rules.specs.Queues.{room}
 use Rattle.rules.specs.Election.{roomOpen}
-use Rattle.seqs.specs.Columns.{column}
+use Rattle.seqs.specs.Columns.{column, left-more, left-none}
 use Rattle.parts.specs.Hold.{holdResponse, packResponse, noResponse, responsesQueue}
 use Rattle.seqs.specs.Queue.{room-held}
 use Rattle.state.specs.Hold.{openAt, responsesAt}
 use Rattle.state.specs.Order.{pastStream}
-use Rattle.switch.proofs.Passing.{left-more, left-none, room-cons, room-none}
+use Rattle.switch.proofs.Passing.{room-cons, room-none}
 use Rattle.switch.proofs.tell_room.Statement.{statement}
 use Rattle.switch.proofs.tell_room.Tie as tie
 
