@@ -1,0 +1,5 @@
+pub mod SameRun
+pub mod Exchanges
+pub mod Buffers
+pub mod Audit
+pub mod Merged

@@ -1,0 +1,23 @@
+-- `exists` meets its contract. Assumes nothing.
+use mathlib.Core.Path.{sym}
+use native.Mathlib.Omega.{arith}
+use Rattle.rules.specs.Range.{within}
+use Rattle.independence.specs.Kinds.{none-exists, at-node, at-none, past-all}
+use Rattle.independence.proofs.exists.Statement.{statement}
+use Rattle.independence.proofs.exists.Tie as tie
+
+returns : tie.Need-returns
+returns c = sym (none-exists _ _ _ (c .if1 .taken))
+
+returns-2 : tie.Need-returns-2
+unfolding within
+returns-2 c = sym (at-node _ _ _ (omega arith) (omega arith))
+
+returns-3 : tie.Need-returns-3
+returns-3 c = sym (at-none _ _ _ (omega arith) (omega arith))
+
+returns-4 : tie.Need-returns-4
+returns-4 c = sym (past-all _ _ _ (omega arith))
+
+pub exists-spec : {M : Type 1} → statement M
+exists-spec = tie.close (tie.spec returns returns-2 returns-3 returns-4)
