@@ -1,10 +1,8 @@
 -- How long a line can be. Assumes nothing.
-use mathlib.Core.List.{List, [], _∷_, _++_}
-use Prim.Native.Nat.{ℕ, suc, _+_, _^_, _≤_, _<_}
+use Prim.Native.Nat.{ℕ, _≤_, _<_}
 use native.Mathlib.Omega.{arith}
 use lib.ListN.{length, length-append}
-use Rattle.text.specs.Decimal.{decimal}
-use Rattle.text.specs.Lines.{blank, newline, number, recordLine, writesLine, writeLine, refusedLine}
+use Rattle.text.specs.Lines.{recordLine, writesLine, writeLine, refusedLine}
 use Rattle.text.specs.Digits.{width}
 
 -- A place of up to five digits, and three bytes.

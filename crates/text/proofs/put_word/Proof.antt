@@ -1,13 +1,10 @@
 -- `put_word` meets its contract. The loop's invariant: the bytes passed are put. Assumes nothing.
-use mathlib.Core.Path.{_≡_, refl, sym, _∙_}
-use mathlib.Core.List.{List, [], _∷_, _++_}
-use Prim.Native.Nat.{ℕ, _+_, _-_, _≤_, _<_}
-use native.Mathlib.Numerals.{add-one}
+use Prim.Native.Nat.{_-_, _≤_}
 use native.Mathlib.Omega.{arith}
 use borrow.Author.Needs.{needs}
-use lib.ListN.{length, take, getD}
-use lib.Seq.{take-suc, take-all}
-use Rattle.text.specs.Put.{Room, Put}
+use lib.ListN.{length, take}
+use lib.Seq.{take-all}
+use Rattle.text.specs.Put.{Put}
 use Rattle.text.specs.Puts.{put-none, put-more, put-length, room-more}
 use Rattle.text.proofs.put_word.Statement.{statement}
 use Rattle.text.proofs.put_word.Tie as tie

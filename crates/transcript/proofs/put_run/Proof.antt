@@ -1,0 +1,83 @@
+-- `put_run` meets its contract: the lines of the records, of the number of writes and of the writes, and no more than fits. Assumes nothing.
+use mathlib.Core.Path.{_≡_}
+use mathlib.Core.List.{List}
+use Prim.Native.Nat.{ℕ, _-_, _≤_}
+use native.Mathlib.Omega.{arith}
+use borrow.Author.Needs.{needs}
+use lib.ListN.{length, drop, length-take, length-drop}
+use lib.Seq.{take-all}
+use Rattle.rules.specs.Limits.{historyLength}
+use Rattle.text.specs.Lines.{writesLine}
+use Rattle.text.specs.Put.{Put}
+use Rattle.text.specs.Puts.{put-then, put-length}
+use Rattle.text.specs.Widths.{writes-line-width}
+use Rattle.lists.specs.EventList.{recordCount}
+use Rattle.transcript.specs.Transcript.{recordLineAt}
+use Rattle.transcript.specs.Bytes.{entryLineAt, bytesText, longestText}
+use Rattle.transcript.specs.Lines.{Lined}
+use Rattle.transcript.proofs.put_run.Statement.{statement}
+use Rattle.transcript.proofs.put_run.Tie as tie
+
+-- the three parts, one behind the other
+whole : (list out : List ℕ) (writes : ℕ) {part l m k j : List ℕ} {count a b r : ℕ} → count ≡ recordCount list → part ≡ drop count out → count ≤ 32762 → writes ≤ historyLength
+    → Lined (recordLineAt list out) 18 l 0 count m a → Put m a (writesLine writes) k b → Lined (entryLineAt part) 10 k b writes j r
+    → Put l 0 (bytesText list out writes) j r × (r ≤ longestText)
+unfolding bytesText
+whole list out writes e d c w p q s =
+    let short = writes-line-width writes (omega arith) in
+    (rw (← e, ← d) (put-then (put-then (p .put) q) (s .put)), omega arith)
+
+put-records-requires : tie.Need-put-records-requires
+put-records-requires c κs = search needs
+
+put-writes-line-requires : tie.Need-put-writes-line-requires
+put-writes-line-requires c κs =
+    let records = c .before .before .before in
+    let writes = records .before .before .before .before .before .args .writes in
+    let same = put-length (records .put-records .ensures .put) in
+    let short = writes-line-width writes (omega arith) in
+    record { enough = omega arith }
+
+sub-put-writes : tie.Need-sub-put-writes
+sub-put-writes c = search needs
+
+part-put-writes-start : tie.Need-part-put-writes-start
+part-put-writes-start c = search needs
+
+part-put-writes-end : tie.Need-part-put-writes-end
+part-put-writes-end c = search needs
+
+put-writes-requires : tie.Need-put-writes-requires
+put-writes-requires c κs =
+    let line = c .before .before .before .before in
+    let records = line .before .before .before .before in
+    let start = records .before .before .before .before .before in
+    let same = put-length (put-then (records .put-records .ensures .put) (line .put-writes-line .ensures)) in
+    let short = writes-line-width (start .args .writes) (omega arith) in
+    (simp (length-take, length-drop) (omega arith), omega arith)
+
+same-length : tie.Need-same-length
+same-length c = search needs
+
+returns : tie.Need-returns
+returns c =
+    let line = c .before .before .before .before .before .before .before in
+    let records = line .before .before .before .before in
+    let start = records .before .before .before .before .before in
+    let count = start .args .trailer .count in
+    let out = start .args .out .now in
+    whole (start .args .list .now) out (start .args .writes) (start .pre .0 .count) (take-all (length out - count) (drop count out) (simp length-drop (omega arith))) (omega arith) (omega arith)
+    (records .put-records .ensures) (line .put-writes-line .ensures) (c .before .before .put-writes .ensures)
+
+pub put-run-spec : {M : Type 1} → statement M
+put-run-spec =
+    tie.close
+    (tie.spec
+    put-records-requires
+    put-writes-line-requires
+    sub-put-writes
+    part-put-writes-start
+    part-put-writes-end
+    put-writes-requires
+    same-length
+    returns)

@@ -1,0 +1,6 @@
+pub mod Transcript
+pub mod Bytes
+pub mod Lines
+pub mod Reading
+pub mod Filled
+pub mod Sample

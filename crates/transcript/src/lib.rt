@@ -1,0 +1,81 @@
+// What running a list prints, as one text.
+ghost use mathlib.Core.Path.{_≡_};
+ghost use Prim.Native.Nat.{_+_, _*_, _≤_};
+ghost use lib.ListN.{length};
+ghost use Rattle.rules.specs.Limits.{historyLength};
+ghost use Rattle.runner.specs.Running.{Trails};
+ghost use Rattle.text.specs.Put.{Put};
+ghost use Rattle.transcript.specs.Transcript.{recordLineAt, transcript};
+ghost use Rattle.transcript.specs.Bytes.{termAt, entryLineAt, bytesText, longestText};
+ghost use Rattle.transcript.specs.Lines.{Lined};
+use lists::Trailer;
+
+// Room for the longest text: 32,762 lines of 18 bytes, one of 12 and 1,024 of 10.
+pub const LONGEST_TEXT: usize = 600000;
+
+// Room for the answers to 32,762 records, and for a full history.
+const LONGEST_OUT: usize = 36858;
+
+// What a run without writes returns.
+const NO_WRITES: u32 = 256;
+
+// A line for each record. It has at most 18 bytes: a place of five digits, and three bytes of three digits.
+fn put_records(buf: &mut [u8], list: &[u8], trailer: Trailer, answers: &[u8]) -> usize
+    requires { ⌜ Trails (now list) trailer × (trailer .count ≤ length (now answers)) × (18 * trailer .count ≤ length (now buf)) ⌝ }
+    ensures { λ r. ⌜ Lined (recordLineAt (now (list .entry)) (now (answers .entry))) 18 (now (buf .entry)) 0 (trailer .count) (now (buf .exit)) r ⌝ }
+{
+    let mut at: usize = 0;
+    let mut i: usize = 0;
+    while i < trailer.count {
+        let event = lists::read_record(list, trailer.first, i);
+        at = text::put_record_line(buf, at, (i + 1) as u32, event.kind, event.node, answers[i]);
+        i += 1;
+    }
+    at
+}
+
+// The term of entry number i of the history.
+fn term_at(part: &[u8], i: usize) -> u16
+    requires { ⌜ 4 * i + 4 ≤ length (now part) ⌝ }
+    ensures { λ r. ⌜ r ≡ termAt (now (part .entry)) i ⌝ }
+{
+    part[4 * i + 2] as u16 + 256 * (part[4 * i + 3] as u16)
+}
+
+// A line for each entry of the history. It has at most 10 bytes: a byte of three digits, and a term of five.
+fn put_writes(buf: &mut [u8], at: usize, part: &[u8], writes: usize) -> usize
+    requires { ⌜ (4 * writes ≤ length (now part)) × (at + 10 * writes ≤ length (now buf)) ⌝ }
+    ensures { λ r. ⌜ Lined (entryLineAt (now (part .entry))) 10 (now (buf .entry)) at writes (now (buf .exit)) r ⌝ }
+{
+    let mut next = at;
+    let mut i: usize = 0;
+    while i < writes {
+        next = text::put_write_line(buf, next, part[4 * i], term_at(part, i));
+        i += 1;
+    }
+    next
+}
+
+// The whole text of a list that is not refused, from the buffer that its run has filled.
+fn put_run(buf: &mut [u8], list: &[u8], trailer: Trailer, out: &[u8], writes: u32) -> usize
+    requires { ⌜ Trails (now list) trailer × (writes ≤ historyLength) × (trailer .count + 4 * writes ≤ length (now out)) × (longestText ≤ length (now buf)) ⌝ }
+    ensures { λ r. ⌜ Put (now (buf .entry)) 0 (bytesText (now (list .entry)) (now (out .entry)) writes) (now (buf .exit)) r × (r ≤ longestText) ⌝ }
+{
+    let count = trailer.count;
+    let writes_at = put_records(buf, list, trailer, out);
+    let next = text::put_writes_line(buf, writes_at, writes);
+    put_writes(buf, next, &out[count..], writes as usize)
+}
+
+// Runs a list from a fresh state and puts what the program prints at the front of the buffer. Returns how many bytes that is.
+pub fn transcript(list: &[u8], buf: &mut [u8; LONGEST_TEXT]) -> usize
+    ensures { λ r. ⌜ Put (now (buf .entry)) 0 (transcript (now (list .entry))) (now (buf .exit)) r × (r ≤ length (now (buf .exit))) ⌝ }
+{
+    let trailer = lists::read_trailer(list);
+    if trailer.code == parts::DONE {
+        let mut out = [0u8; LONGEST_OUT];
+        let returned = runner::run(list, &mut out);
+        return put_run(buf, list, trailer, &out, returned - NO_WRITES);
+    }
+    text::put_refused_line(buf, 0, trailer.code as u32)
+}
