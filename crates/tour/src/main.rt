@@ -70,43 +70,9 @@ fn first_master_writes() {
 
 fn queues_fill() {
     io::write_all(STDOUT_FILENO, b"one node, nothing learned, the ninth Join:");
-    let joins = [
-        1,
-        1,
-        2,
-        1,
-        1,
-        1,
-        2,
-        1,
-        1,
-        1,
-        2,
-        1,
-        1,
-        1,
-        2,
-        1,
-        1,
-        1,
-        2,
-        1,
-        1,
-        1,
-        2,
-        1,
-        1,
-        1,
-        2,
-        1,
-        1,
-        1,
-        2,
-        1,
-        1,
-        1,
-    ];
-    play(fresh(1), &joins);
+    let joins =
+        b"\x01\x01\x02\x01\x01\x01\x02\x01\x01\x01\x02\x01\x01\x01\x02\x01\x01\x01\x02\x01\x01\x01\x02\x01\x01\x01\x02\x01\x01\x01\x02\x01\x01\x01";
+    play(fresh(1), joins);
 }
 
 // A fresh state of two nodes whose service is at a later term.
@@ -151,43 +117,9 @@ fn ids_collide() {
         STDOUT_FILENO,
         b"a first backup asks for the id of an older master; its stream closes:",
     );
-    let steps = [
-        1,
-        1,
-        3,
-        1,
-        8,
-        1,
-        4,
-        1,
-        10,
-        1,
-        1,
-        2,
-        1,
-        3,
-        2,
-        1,
-        3,
-        3,
-        3,
-        3,
-        3,
-        3,
-        3,
-        3,
-        8,
-        3,
-        4,
-        3,
-        10,
-        3,
-        9,
-        3,
-        8,
-        3,
-    ];
-    print_open(play(fresh(3), &steps));
+    let steps =
+        b"\x01\x01\x03\x01\x08\x01\x04\x01\x0a\x01\x01\x02\x01\x03\x02\x01\x03\x03\x03\x03\x03\x03\x03\x03\x08\x03\x04\x03\x0a\x03\x09\x03\x08\x03";
+    print_open(play(fresh(3), steps));
 }
 
 fn old_master_is_denied() {
@@ -195,57 +127,9 @@ fn old_master_is_denied() {
         STDOUT_FILENO,
         b"an old master is switch master again and is denied:",
     );
-    let steps = [
-        1,
-        1,
-        1,
-        2,
-        3,
-        1,
-        3,
-        1,
-        8,
-        1,
-        4,
-        1,
-        10,
-        1,
-        5,
-        1,
-        2,
-        1,
-        3,
-        2,
-        3,
-        2,
-        3,
-        2,
-        8,
-        2,
-        4,
-        2,
-        10,
-        2,
-        5,
-        2,
-        6,
-        2,
-        11,
-        2,
-        9,
-        2,
-        6,
-        1,
-        11,
-        1,
-        5,
-        1,
-        5,
-        1,
-        7,
-        1,
-    ];
-    print_writes(play(fresh(2), &steps));
+    let steps =
+        b"\x01\x01\x01\x02\x03\x01\x03\x01\x08\x01\x04\x01\x0a\x01\x05\x01\x02\x01\x03\x02\x03\x02\x03\x02\x08\x02\x04\x02\x0a\x02\x05\x02\x06\x02\x0b\x02\x09\x02\x06\x01\x0b\x01\x05\x01\x05\x01\x07\x01";
+    print_writes(play(fresh(2), steps));
 }
 
 fn order_matters() {
