@@ -1,5 +1,5 @@
 -- Bytes put one behind the other: the content, the place and the room. Assumes nothing.
-use mathlib.Core.Path.{_≡_, refl, ap, _∙_}
+use mathlib.Core.Path.{_≡_, refl, sym, ap, _∙_}
 use mathlib.Core.List.{List, [], _∷_, _++_}
 use Prim.Native.Nat.{ℕ, suc, _+_, _<_}
 use native.Mathlib.Nat.{add-zero, add-suc, suc-add}
@@ -16,6 +16,10 @@ sets-then l at (x ∷ a) b = rw (add-suc at (length a), ← suc-add at (length a
 module _ {l : List ℕ} {at : ℕ} {a : List ℕ} where
   pub put-length : {m : List ℕ} {i : ℕ} → Put l at a m i → length m ≡ length l
   put-length p = ap length (p .content) ∙ length-sets l at a
+
+  -- no second answer
+  pub put-only : {m k : List ℕ} {i j : ℕ} → Put l at a m i → Put l at a k j → (m ≡ k) × (i ≡ j)
+  put-only p q = (p .content ∙ sym (q .content), p .place ∙ sym (q .place))
 
   pub put-then : {b m k : List ℕ} {i j : ℕ} → Put l at a m i → Put m i b k j → Put l at (a ++ b) k j
   put-then {b} p q = record {

@@ -1,4 +1,5 @@
-// What running a list prints, as one text.
+// What running a list prints, as one text. The text is made whole in one buffer, so that a contract states every byte of it: of bytes that are written
+// to a file part by part no contract can speak.
 ghost use mathlib.Core.Path.{_≡_};
 ghost use Prim.Native.Nat.{_+_, _*_, _≤_};
 ghost use lib.ListN.{length};

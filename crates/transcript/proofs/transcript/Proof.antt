@@ -38,7 +38,7 @@ slice-aggregate-put-run : tie.Need-slice-aggregate-put-run
 slice-aggregate-put-run c = search needs
 
 sub-put-run : tie.Need-sub-put-run
-sub-put-run c = after-run c .done
+sub-put-run c = let run = after-run c in omega arith
 
 put-run-requires : tie.Need-put-run-requires
 put-run-requires c κs =
@@ -46,7 +46,7 @@ put-run-requires c κs =
     let run = after-run c in
     let out = c .before .before .out2 .given in
     let buf = c .before .put-run-arg .given .0 .1 in
-    (known, run .few, omega arith, omega arith)
+    (known, omega arith, omega arith, omega arith)
 
 returns : tie.Need-returns
 returns c =
