@@ -1,0 +1,5 @@
+pub mod Compare
+pub mod Seek
+pub mod Left
+pub mod Marks
+pub mod Walk

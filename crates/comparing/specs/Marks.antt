@@ -1,0 +1,15 @@
+-- The letters of the second list, of which those that are taken are marked.
+use mathlib.Core.Bool.{Bool, not}
+use mathlib.Core.List.{List}
+use Prim.Native.Nat.{ℕ}
+use lib.Dec.{eqb}
+use lib.ListN.{getD}
+use Rattle.letters.specs.Letters.{gone, passes}
+
+-- The record at a place is not taken yet.
+abbrev pub isLeft : List ℕ → ℕ → Bool
+isLeft letters q = not (eqb (getD letters q 0) gone)
+
+-- A step with this letter may not pass what stands at a place.
+abbrev pub isStop : List ℕ → List ℕ → ℕ → ℕ → Bool
+isStop letters table a q = not (passes table a (getD letters q 0))
