@@ -20,9 +20,10 @@ use Rattle.verdict.specs.Pairs.{only}
 use Rattle.letters.specs.Letters.{letterOf, gone, TableFor, passes}
 use Rattle.letters.specs.Known.{letter-small}
 use Rattle.letters.specs.Table.{passes-gone, passes-free}
-use Rattle.comparing.specs.Compare.{same, onlyFirst, onlySecond, from, seek, free, equal, obstacle, looked, compare}
+use Rattle.comparing.specs.Compare.{same, onlyFirst, onlySecond, from, seek, free, equal, looked, compare}
 use Rattle.comparing.specs.declared.Finding.{Finding}
 use Rattle.comparing.specs.Marks.{isLeft, isStop}
+use Rattle.comparing.specs.Obstacles.{hindrance}
 use Rattle.comparing.specs.Seek.{Sought, seek-as, seek-before, seek-some, seek-none}
 use Rattle.comparing.specs.Left.{from-distinct, all-from, only-same, only-every, only-none, only-some, stops, pull-missing, pull-blocked, pull-taken, without}
 
@@ -143,7 +144,7 @@ module _ (count : ℕ) (here there : ℕ → Event) (n m : ℕ) where
         here-it-stops = seek-some (stopping letters j) m at 0 m (omega arith) stop h
 
         pub walk-blocked : alike j at ≡ false
-            → obstacle count here there j at (seek (alike j) (left letters)) (seek (λ x. alike x at) (from (suc j) (n - (j + 1)))) ≡ whole
+            → hindrance count here there n m letters j at ≡ whole
         walk-blocked e = pulled (pull-blocked (isLeft letters) (may j) (alike j) (from 0 m) at here-it-stops e)
 
         marked : (q : ℕ) → leaving letters j at q ≡ isLeft (set letters at gone) q

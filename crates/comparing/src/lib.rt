@@ -1,8 +1,174 @@
-// Comparing two merges of the same logs.
+// Comparing two merges of the same logs: the records of the first list are taken, in turn, out of the second, each past those that are independent of it. A
+// record that is taken has its letter marked as out of the way, so nothing moves.
+ghost use mathlib.Core.Path.{_≡_};
+ghost use mathlib.Core.Bool.{_&&_};
+ghost use Prim.Native.Nat.{_+_, _≤_, _<_};
+ghost use lib.ListN.{length, getD};
+ghost use Rattle.lists.specs.EventList.{recordAt, recordCount, nodeCount};
+ghost use Rattle.lists.specs.Reads.{eventOf};
+ghost use Rattle.runner.specs.Running.{Trails};
+ghost use Rattle.verdict.specs.Verdict.{sameEvent};
+ghost use Rattle.letters.specs.Letters.{letterOf, tableSize, TableFor};
+ghost use Rattle.comparing.specs.Marks.{isLeft, isStop, isThere};
+ghost use Rattle.comparing.specs.Seek.{Sought};
+ghost use Rattle.comparing.specs.Compare.{onlyFirst, onlySecond};
+ghost use Rattle.comparing.specs.Filling.{Lettered};
+ghost use Rattle.comparing.specs.Obstacles.{hindrance};
+use lists::Record;
+use lists::Trailer;
+
+// The verdicts.
+pub const SAME: u32 = 256;
+pub const ORDER: u32 = 257;
+pub const ONLY_FIRST: u32 = 258;
+pub const ONLY_SECOND: u32 = 259;
+
 pub struct Finding {
     pub verdict: u32,
     pub p: usize,
     pub q: usize,
     pub r: usize,
     pub s: usize,
+}
+
+// ---- searches, each for the first place from a start on; the end where there is none
+
+// A record that is not taken.
+fn next_left(letters: &[u8], start: usize) -> usize
+    requires { ⌜ start ≤ length (now letters) ⌝ }
+    ensures { λ r. ⌜ Sought (isLeft (now (letters .entry))) start (length (now (letters .entry))) r ⌝ }
+{
+    let mut i = start;
+    while i < letters.len() {
+        if letters[i] != letters::GONE {
+            return i;
+        }
+        i += 1;
+    }
+    i
+}
+
+// A record that a step with this letter may not pass.
+fn next_stop(letters: &[u8], table: &[u8], letter: u8, start: usize) -> usize
+    requires { ⌜ (length (now table) ≡ tableSize) × (letter < 126) × (start ≤ length (now letters)) ⌝ }
+    ensures { λ r. ⌜ Sought (isStop (now (letters .entry)) (now (table .entry)) letter) start (length (now (letters .entry))) r ⌝ }
+{
+    let row = 256 * (letter as usize);
+    let mut i = start;
+    while i < letters.len() {
+        if table[row + letters[i] as usize] != 1 {
+            return i;
+        }
+        i += 1;
+    }
+    i
+}
+
+fn alike(a: Record, b: Record) -> bool
+    ensures { λ r. ⌜ r ≡ sameEvent (eventOf a) (eventOf b) ⌝ }
+{
+    (a.kind == b.kind) & (a.node == b.node)
+}
+
+// This record, among those of the second list that are not taken.
+fn find_left(letters: &[u8], second: &[u8], trailer: Trailer, event: Record) -> usize
+    requires { ⌜ Trails (now second) trailer × (length (now letters) ≡ trailer .count) ⌝ }
+    ensures { λ r. ⌜ Sought (isThere (now (letters .entry)) (now (second .entry)) (eventOf event)) 0 (trailer .count) r ⌝ }
+{
+    let mut i: usize = 0;
+    while i < trailer.count {
+        let alike = alike(event, lists::read_record(second, trailer.first, i));
+        if (letters[i] != letters::GONE) & alike {
+            return i;
+        }
+        i += 1;
+    }
+    i
+}
+
+// This record, in the first list.
+fn find_record(first: &[u8], trailer: Trailer, start: usize, event: Record) -> usize
+    requires { ⌜ Trails (now first) trailer × (start ≤ trailer .count) ⌝ }
+    ensures { λ r. ⌜ Sought (λ a. sameEvent (recordAt (now (first .entry)) a) (eventOf event)) start (trailer .count) r ⌝ }
+{
+    let mut i = start;
+    while i < trailer.count {
+        if alike(lists::read_record(first, trailer.first, i), event) {
+            return i;
+        }
+        i += 1;
+    }
+    i
+}
+
+// The letters of the second list.
+fn fill_letters(second: &[u8], trailer: Trailer, letters: &mut [u8])
+    requires { ⌜ Trails (now second) trailer × (length (now letters) ≡ trailer .count) ⌝ }
+    ensures { λ _. ⌜ Lettered (now (second .entry)) (now (letters .exit)) (recordCount (now (second .entry))) ⌝ }
+{
+    let mut i: usize = 0;
+    while i < letters.len() {
+        let record = lists::read_record(second, trailer.first, i);
+        letters[i] = letters::letter(record.kind, record.node);
+        i += 1;
+    }
+}
+
+// ---- the comparison
+
+fn only_first(a: usize) -> Finding
+    requires { ⌜ a < 32768 ⌝ }
+    ensures { λ r. ⌜ r ≡ onlyFirst a ⌝ }
+{
+    Finding {
+        verdict: ONLY_FIRST,
+        p: a + 1,
+        q: 0,
+        r: 0,
+        s: 0,
+    }
+}
+
+fn only_second(b: usize) -> Finding
+    requires { ⌜ b < 32768 ⌝ }
+    ensures { λ r. ⌜ r ≡ onlySecond b ⌝ }
+{
+    Finding {
+        verdict: ONLY_SECOND,
+        p: 0,
+        q: 0,
+        r: 0,
+        s: b + 1,
+    }
+}
+
+// Record a of the first list may not pass record b of the second.
+fn hindrance(
+    first: &[u8],
+    one: Trailer,
+    second: &[u8],
+    other: Trailer,
+    letters: &[u8],
+    a: usize,
+    b: usize,
+) -> Finding
+    requires { ⌜ Trails (now first) one × Trails (now second) other × (length (now letters) ≡ other .count) × (a < one .count) × (b < other .count) ⌝ }
+    ensures { λ r. ⌜ r ≡ hindrance (one .nodes) (recordAt (now (first .entry))) (recordAt (now (second .entry))) (one .count) (other .count) (now (letters .entry)) a b ⌝ }
+{
+    let found = find_left(letters, second, other, lists::read_record(first, one.first, a));
+    if found == other.count {
+        return only_first(a);
+    }
+    let blocking = lists::read_record(second, other.first, b);
+    let behind = find_record(first, one, a + 1, blocking);
+    if behind == one.count {
+        return only_second(b);
+    }
+    Finding {
+        verdict: ORDER,
+        p: a + 1,
+        q: behind + 1,
+        r: found + 1,
+        s: b + 1,
+    }
 }
