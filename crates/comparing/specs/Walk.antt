@@ -1,5 +1,5 @@
 -- The comparison as a loop over the first list: what the loop keeps, and each of its ways out. Assumes nothing.
-use mathlib.Core.Path.{_≡_, refl, sym, ap, ap₂, _∙_}
+use mathlib.Core.Path.{_≡_, refl, sym, ap, ap₂, subst, _∙_}
 use mathlib.Core.Logic.{_≢_}
 use mathlib.Core.Bool.{Bool, true, false, not, _&&_, and-true, and-false, true≢false}
 use mathlib.Core.Option.{Option, none, some}
@@ -77,29 +77,29 @@ module _ (count : ℕ) (here there : ℕ → Event) (n m : ℕ) where
 
   module _ {letters : List ℕ} {start j : ℕ} (w : Walking letters start j) where
     -- All records of the first list are taken.
-    module _ (done : n ≤ j) {at : ℕ} (s : Sought (isLeft letters) start m at) where
+    module _ (done : n ≤ j) {at : ℕ} (s : Sought (isLeft letters) start (length letters) at) where
       none-behind : from j (n - j) ≡ []
       none-behind = let z : n - j ≡ 0 = omega arith in ap (from j) z
 
       pub walk-same : m ≤ at → same ≡ whole
       unfolding compare
       walk-same h =
-          let all = seek-before (w .front) s in
+          let all = seek-before (w .front) (rw (w .size) at s) in
           ap₂ (compares) (sym none-behind) (sym (only-none (isLeft letters) (from 0 m) (seek-none (isLeft letters) m at 0 m (omega arith) all h))) ∙ w .going
 
       pub walk-left : at < m → onlySecond at ≡ whole
       unfolding compare
       walk-left h =
-          let all = seek-before (w .front) s in
+          let all = seek-before (w .front) (rw (w .size) at s) in
           let heads = only-some (isLeft letters) (from 0 m) at (seek-some (isLeft letters) m at 0 m (omega arith) all h) in
           ap₂ (compares) (sym none-behind) (sym (heads .is)) ∙ w .going
 
     -- The places that are taken in between are passed over.
-    pub walk-skips : {at : ℕ} → Sought (isLeft letters) start m at → Walking letters at j
+    pub walk-skips : {at : ℕ} → Sought (isLeft letters) start (length letters) at → Walking letters at j
     walk-skips {at} s = record {
       size = w .size;
       taken = w .taken;
-      passed = s .high;
+      passed = let h = s .high in let z = w .size in omega arith;
       front = λ q k. go q k (decLt q start);
       marks = w .marks;
       going = w .going;
@@ -110,7 +110,8 @@ module _ (count : ℕ) (here there : ℕ → Event) (n m : ℕ) where
         go q k (no b) = s .none q (omega arith) k
 
     -- The next record of the first list.
-    module _ (few : count ≤ 8) {table : List ℕ} (for : TableFor count table) (more : j < n) {at : ℕ} (s : Sought (isStop letters table (letterOf (here j))) start m at) where
+    module _ (few : count ≤ 8) {table : List ℕ} (for : TableFor count table) (more : j < n) {a at : ℕ} (is : a ≡ letterOf (here j))
+        (s : Sought (isStop letters table a) start (length letters) at) where
       as-stops : (q : ℕ) → q < m → isStop letters table (letterOf (here j)) q ≡ stopping letters j q
       as-stops q k = go (isLeft letters q) refl
         where
@@ -123,7 +124,7 @@ module _ (count : ℕ) (here there : ℕ → Event) (n m : ℕ) where
 
       -- none of the places before `start` stops it
       stop : Sought (stopping letters j) 0 m at
-      stop = seek-before (λ q k. ap (λ (b : Bool). b && not (may j q)) (w .front q k)) (seek-as as-stops s)
+      stop = seek-before (λ q k. ap (λ (b : Bool). b && not (may j q)) (w .front q k)) (seek-as as-stops (rw (w .size) at (subst (λ (x : ℕ). Sought (isStop letters table x) start (length letters) at) is s)))
 
       next : from j (n - j) ≡ j ∷ from (suc j) (n - (j + 1))
       next = let z : n - j ≡ suc (n - (j + 1)) = omega arith in ap (from j) z

@@ -14,6 +14,7 @@ ghost use Rattle.comparing.specs.Seek.{Sought};
 ghost use Rattle.comparing.specs.Compare.{onlyFirst, onlySecond};
 ghost use Rattle.comparing.specs.Filling.{Lettered};
 ghost use Rattle.comparing.specs.Obstacles.{hindrance};
+ghost use Rattle.comparing.specs.Walk.{whole};
 use lists::Record;
 use lists::Trailer;
 
@@ -170,5 +171,47 @@ fn hindrance(
         q: behind + 1,
         r: found + 1,
         s: b + 1,
+    }
+}
+
+// Takes the records of the first list out of the second.
+fn walk(
+    first: &[u8],
+    one: Trailer,
+    second: &[u8],
+    other: Trailer,
+    letters: &mut [u8],
+    table: &[u8],
+) -> Finding
+    requires { ⌜ Trails (now first) one × Trails (now second) other × Lettered (now second) (now letters) (recordCount (now second)) × TableFor (one .nodes) (now table) ⌝ }
+    ensures { λ r. ⌜ r ≡ whole (one .nodes) (recordAt (now (first .entry))) (recordAt (now (second .entry))) (one .count) (other .count) ⌝ }
+{
+    let mut start: usize = 0;
+    let mut j: usize = 0;
+    while j < one.count {
+        let event = lists::read_record(first, one.first, j);
+        start = next_left(letters, start);
+        let letter = letters::letter(event.kind, event.node);
+        let at = next_stop(letters, table, letter, start);
+        if at == other.count {
+            return only_first(j);
+        }
+        let met = lists::read_record(second, other.first, at);
+        if !alike(event, met) {
+            return hindrance(first, one, second, other, letters, j, at);
+        }
+        letters[at] = letters::GONE;
+        j += 1;
+    }
+    let at = next_left(letters, start);
+    if at < other.count {
+        return only_second(at);
+    }
+    Finding {
+        verdict: SAME,
+        p: 0,
+        q: 0,
+        r: 0,
+        s: 0,
     }
 }

@@ -1,69 +1,75 @@
+-- `hindrance` meets its contract. Assumes nothing.
+use mathlib.Core.Path.{_≡_, _∙_}
+use mathlib.Core.Logic.{_≢_}
+use Prim.Native.Nat.{ℕ, _≤_, _<_}
+use native.Mathlib.Omega.{arith}
+use Rattle.lists.specs.EventList.{recordAt}
+use Rattle.comparing.specs.Obstacles.{no-second, no-first, crossed}
 use borrow.Author.Needs.{needs}
 use Rattle.comparing.proofs.hindrance.Statement.{statement}
 use Rattle.comparing.proofs.hindrance.Tie as tie
-use Rattle.comparing.proofs.hindrance.Reads as reads
-use Rattle.comparing.proofs.hindrance.Lts as lts
-use Rattle.comparing.proofs.find_left.Reads as find-left-reads
-use Rattle.comparing.proofs.find_record.Reads as find-record-reads
-use Rattle.comparing.proofs.only_first.Reads as only-first-reads
-use Rattle.comparing.proofs.only_second.Reads as only-second-reads
-use Rattle.lists.proofs.read_record.Reads as read-record-reads
 
--- src/lib.rt:158:51
+below : {a b : ℕ} → a ≤ b → a ≢ b → a < b
+below h d = omega arith
+
 read-record-requires : tie.Need-read-record-requires
 read-record-requires c κs = search needs
 
--- src/lib.rt:158:9
 find-left-requires : tie.Need-find-left-requires
 find-left-requires c κs = search needs
 
--- src/lib.rt:160:9
 only-first-requires : tie.Need-only-first-requires
 only-first-requires c κs = search needs
 
--- src/lib.rt:160:9
 returns : tie.Need-returns
-returns c = ?
+returns c =
+    let found = c .before .before .before in
+    let start = found .before .before .before .before .before in
+    let x = start .args in
+    c .only-first .ensures ∙ no-second (x .one .nodes) (recordAt (x .first .now)) (recordAt (x .second .now)) (x .one .count) (x .other .count) (x .letters .now) (x .a) (x .b) (start .pre .3) (found .before .read-record .ensures) (found .find-left .ensures) (omega arith)
 
--- src/lib.rt:162:9
 read-record-requires-2 : tie.Need-read-record-requires-2
 read-record-requires-2 c κs = search needs
 
--- src/lib.rt:163:42
 add-find-record : tie.Need-add-find-record
 add-find-record c = search needs
 
--- src/lib.rt:163:9
 find-record-requires : tie.Need-find-record-requires
 find-record-requires c κs = search needs
 
--- src/lib.rt:165:9
 only-second-requires : tie.Need-only-second-requires
 only-second-requires c κs = search needs
 
--- src/lib.rt:165:9
 returns-2 : tie.Need-returns-2
-returns-2 c = ?
+returns-2 c =
+    let behind = c .before .before .before in
+    let found = behind .before .before .before .before in
+    let start = found .before .before .before .before .before in
+    let x = start .args in
+    c .only-second .ensures
+    ∙ no-first (x .one .nodes) (recordAt (x .first .now)) (recordAt (x .second .now)) (x .one .count) (x .other .count) (x .letters .now) (x .a) (x .b) (start .pre .3) (found .before .read-record .ensures) (found .find-left .ensures) (below (found .find-left .ensures .high) (behind .before .before .if1 .left))
+        (behind .before .read-record2 .ensures) (behind .find-record .ensures) (omega arith)
 
--- src/lib.rt:169:12
 add-t13 : tie.Need-add-t13
 add-t13 c = search needs
 
--- src/lib.rt:170:12
 add-t14 : tie.Need-add-t14
 add-t14 c = search needs
 
--- src/lib.rt:171:12
 add-t15 : tie.Need-add-t15
 add-t15 c = search needs
 
--- src/lib.rt:172:12
 add-t16 : tie.Need-add-t16
 add-t16 c = search needs
 
--- src/lib.rt:146:1
 returns-3 : tie.Need-returns-3
-returns-3 c = ?
+returns-3 c =
+    let behind = c .before .before in
+    let found = behind .before .before .before .before in
+    let start = found .before .before .before .before .before in
+    let x = start .args in
+    crossed (x .one .nodes) (recordAt (x .first .now)) (recordAt (x .second .now)) (x .one .count) (x .other .count) (x .letters .now) (x .a) (x .b) (start .pre .3) (found .before .read-record .ensures) (found .find-left .ensures) (below (found .find-left .ensures .high) (behind .before .before .if1 .left))
+        (behind .before .read-record2 .ensures) (behind .find-record .ensures) (below (behind .find-record .ensures .high) (c .if2 .left))
 
 pub hindrance-spec : {M : Type 1} → statement M
 hindrance-spec =
