@@ -5,3 +5,5 @@ pub mod Marks
 pub mod Filling
 pub mod Obstacles
 pub mod Walk
+pub mod Compared
+pub mod Refusing

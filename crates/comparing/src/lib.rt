@@ -12,6 +12,7 @@ ghost use Rattle.letters.specs.Letters.{letterOf, tableSize, TableFor};
 ghost use Rattle.comparing.specs.Marks.{isLeft, isStop, isThere};
 ghost use Rattle.comparing.specs.Seek.{Sought};
 ghost use Rattle.comparing.specs.Compare.{onlyFirst, onlySecond};
+ghost use Rattle.comparing.specs.Compared.{refused, comparison, compared};
 ghost use Rattle.comparing.specs.Filling.{Lettered};
 ghost use Rattle.comparing.specs.Obstacles.{hindrance};
 ghost use Rattle.comparing.specs.Walk.{whole};
@@ -20,10 +21,22 @@ use lists::Trailer;
 
 // The verdicts.
 pub const SAME: u32 = 256;
+
 pub const ORDER: u32 = 257;
+
 pub const ONLY_FIRST: u32 = 258;
+
 pub const ONLY_SECOND: u32 = 259;
 
+// The refusals: those of the first list as they are, those of the second with this added, and lists of different node counts.
+pub const OF_SECOND: u32 = 16;
+
+pub const NODES_DIFFER: u32 = 28;
+
+// The most records that a list has.
+const MOST_RECORDS: usize = 32762;
+
+// A verdict or a refusal; and the places, from 1, of two records a and b: p and q in the first list, r and s in the second. 0 where there is none.
 pub struct Finding {
     pub verdict: u32,
     pub p: usize,
@@ -156,7 +169,12 @@ fn hindrance(
     requires { ⌜ Trails (now first) one × Trails (now second) other × (length (now letters) ≡ other .count) × (a < one .count) × (b < other .count) ⌝ }
     ensures { λ r. ⌜ r ≡ hindrance (one .nodes) (recordAt (now (first .entry))) (recordAt (now (second .entry))) (one .count) (other .count) (now (letters .entry)) a b ⌝ }
 {
-    let found = find_left(letters, second, other, lists::read_record(first, one.first, a));
+    let found = find_left(
+        letters,
+        second,
+        other,
+        lists::read_record(first, one.first, a),
+    );
     if found == other.count {
         return only_first(a);
     }
@@ -214,4 +232,63 @@ fn walk(
         r: 0,
         s: 0,
     }
+}
+
+// The same, of letters that are yet to be put down.
+fn walk_letters(
+    first: &[u8],
+    one: Trailer,
+    second: &[u8],
+    other: Trailer,
+    letters: &mut [u8],
+    table: &[u8],
+) -> Finding
+    requires { ⌜ Trails (now first) one × Trails (now second) other × (length (now letters) ≡ other .count) × TableFor (one .nodes) (now table) ⌝ }
+    ensures { λ r. ⌜ r ≡ whole (one .nodes) (recordAt (now (first .entry))) (recordAt (now (second .entry))) (one .count) (other .count) ⌝ }
+{
+    fill_letters(second, other, letters);
+    walk(first, one, second, other, letters, table)
+}
+
+// Two lists that are not refused.
+fn compare_good(first: &[u8], one: Trailer, second: &[u8], other: Trailer) -> Finding
+    requires { ⌜ Trails (now first) one × Trails (now second) other ⌝ }
+    ensures { λ r. ⌜ r ≡ comparison (now (first .entry)) (now (second .entry)) ⌝ }
+{
+    let mut table = [0u8; letters::TABLE_SIZE];
+    letters::fill_table(one.nodes, &mut table);
+    let mut letters = [0u8; MOST_RECORDS];
+    let count = other.count;
+    walk_letters(first, one, second, other, &mut letters[..count], &table)
+}
+
+fn refused(code: u32) -> Finding
+    ensures { λ r. ⌜ r ≡ refused code ⌝ }
+{
+    Finding {
+        verdict: code,
+        p: 0,
+        q: 0,
+        r: 0,
+        s: 0,
+    }
+}
+
+// Compares two event lists as merges of the same logs: whether exchanges of independent neighbours lead from the one to the other, and if not, two dependent
+// records that stand in the other order, or a record that one list lacks.
+pub fn compare(first: &[u8], second: &[u8]) -> Finding
+    ensures { λ r. ⌜ r ≡ compared (now (first .entry)) (now (second .entry)) ⌝ }
+{
+    let one = lists::read_trailer(first);
+    if one.code != parts::DONE {
+        return refused(one.code as u32);
+    }
+    let other = lists::read_trailer(second);
+    if other.code != parts::DONE {
+        return refused(OF_SECOND + other.code as u32);
+    }
+    if one.nodes != other.nodes {
+        return refused(NODES_DIFFER);
+    }
+    compare_good(first, one, second, other)
 }

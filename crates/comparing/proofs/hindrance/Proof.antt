@@ -48,7 +48,7 @@ returns-2 c =
     let x = start .args in
     c .only-second .ensures
     ∙ no-first (x .one .nodes) (recordAt (x .first .now)) (recordAt (x .second .now)) (x .one .count) (x .other .count) (x .letters .now) (x .a) (x .b) (start .pre .3) (found .before .read-record .ensures) (found .find-left .ensures) (below (found .find-left .ensures .high) (behind .before .before .if1 .left))
-        (behind .before .read-record2 .ensures) (behind .find-record .ensures) (omega arith)
+    (behind .before .read-record2 .ensures) (behind .find-record .ensures) (omega arith)
 
 add-t13 : tie.Need-add-t13
 add-t13 c = search needs
@@ -69,7 +69,7 @@ returns-3 c =
     let start = found .before .before .before .before .before in
     let x = start .args in
     crossed (x .one .nodes) (recordAt (x .first .now)) (recordAt (x .second .now)) (x .one .count) (x .other .count) (x .letters .now) (x .a) (x .b) (start .pre .3) (found .before .read-record .ensures) (found .find-left .ensures) (below (found .find-left .ensures .high) (behind .before .before .if1 .left))
-        (behind .before .read-record2 .ensures) (behind .find-record .ensures) (below (behind .find-record .ensures .high) (c .if2 .left))
+    (behind .before .read-record2 .ensures) (behind .find-record .ensures) (below (behind .find-record .ensures .high) (c .if2 .left))
 
 pub hindrance-spec : {M : Type 1} → statement M
 hindrance-spec =

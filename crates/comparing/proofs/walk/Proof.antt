@@ -89,7 +89,7 @@ returns-2 c =
     let x = d .before .before .before .before .before .before .before .before .before .before .before .before .before .args in
     c .hindrance .ensures
     ∙ walk-blocked (x .one .nodes) (recordAt (x .first .now)) (recordAt (x .second .now)) (x .one .count) (x .other .count) (skipped d) (few d) (d .before .before .before .before .before .before .before .before .before .before .before .before .before .pre .3) (d .before .before .before .before .before .before .if1 .taken) (letter-of d) (d .next-stop .ensures) (inside d (c .before .before .before .before .before .if2 .left))
-        (same (c .before .before .before) ∙ not-true _ (c .before .before .if3 .taken))
+    (same (c .before .before .before) ∙ not-true _ (c .before .before .if3 .taken))
 
 slice-write-letters : tie.Need-slice-write-letters Inv-loop μ-loop
 slice-write-letters c = search needs
@@ -105,7 +105,7 @@ loop-again c =
     let d = c .before .before .before .before .before in
     let x = d .before .before .before .before .before .before .before .before .before .before .before .before .before .args in
     walk-takes (x .one .nodes) (recordAt (x .first .now)) (recordAt (x .second .now)) (x .one .count) (x .other .count) (skipped d) (few d) (d .before .before .before .before .before .before .before .before .before .before .before .before .before .pre .3) (d .before .before .before .before .before .before .if1 .taken) (letter-of d) (d .next-stop .ensures) (inside d (c .before .before .before .if2 .left))
-        (same (c .before) ∙ not-false _ (c .if3 .left))
+    (same (c .before) ∙ not-false _ (c .if3 .left))
 
 next-left-requires-2 : tie.Need-next-left-requires-2 Inv-loop μ-loop
 next-left-requires-2 c κs = search needs
