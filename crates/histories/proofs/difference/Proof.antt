@@ -1,0 +1,41 @@
+-- `difference` meets its contract. Assumes nothing.
+use mathlib.Core.Path.{ap, sym, _∙_}
+use mathlib.Core.Bool.{Bool, cond}
+use native.Mathlib.Omega.{arith}
+use Rattle.seqs.specs.Tables.{table-length}
+use Rattle.histories.specs.Difference.{agrees, differsAt, entryAt, entries}
+use Rattle.histories.specs.Entries.{common-le, parted, differs-in}
+use borrow.Author.Needs.{needs}
+use Rattle.histories.proofs.difference.Statement.{statement}
+use Rattle.histories.proofs.difference.Tie as tie
+
+common-requires : tie.Need-common-requires
+common-requires c κs = search needs
+
+returns : tie.Need-returns
+returns c = let x = c .before .before .before .before .args in
+    sym (parted (x .one .now) (x .n) (x .other .now) (x .m) _ (c .before .common .ensures) ∙ ap (λ (b : Bool). cond b agrees (differsAt (c .before .common .result) (entries (x .one .now) (x .n)) (entries (x .other .now) (x .m)))) (c .if1 .taken))
+
+entry-of-requires : tie.Need-entry-of-requires
+entry-of-requires c κs = search needs
+
+entry-of-requires-2 : tie.Need-entry-of-requires-2
+entry-of-requires-2 c κs = search needs
+
+add-t12 : tie.Need-add-t12
+add-t12 c = let x = c .before .before .before .before .before .before .args in
+    let low = common-le (entries (x .one .now) (x .n)) (entries (x .other .now) (x .m)) in
+    let size = table-length (x .n) (entryAt (x .one .now)) in
+    let is = c .before .before .before .common .ensures in
+    omega arith
+
+returns-2 : tie.Need-returns-2
+returns-2 c = let x = c .before .before .before .before .before .before .args in
+    let i = c .before .before .before .common .result in
+    differs-in (entries (x .one .now) (x .n)) (entries (x .other .now) (x .m)) i (c .before .entry-of .ensures) (c .entry-of2 .ensures)
+    ∙ sym (parted (x .one .now) (x .n) (x .other .now) (x .m) i (c .before .before .before .common .ensures) ∙ ap (λ (b : Bool). cond b agrees (differsAt i (entries (x .one .now) (x .n)) (entries (x .other .now) (x .m)))) (c .before .before .if1 .left))
+
+pub difference-spec : {M : Type 1} → statement M
+difference-spec =
+    tie.close
+    (tie.spec common-requires returns entry-of-requires entry-of-requires-2 add-t12 returns-2)
