@@ -39,10 +39,10 @@ const MOST_RECORDS: usize = 32762;
 // A verdict or a refusal; and the places, from 1, of two records a and b: p and q in the first list, r and s in the second. 0 where there is none.
 pub struct Finding {
     pub verdict: u32,
-    pub p: usize,
-    pub q: usize,
-    pub r: usize,
-    pub s: usize,
+    pub p: u32,
+    pub q: u32,
+    pub r: u32,
+    pub s: u32,
 }
 
 // ---- searches, each for the first place from a start on; the end where there is none
@@ -136,7 +136,7 @@ fn only_first(a: usize) -> Finding
 {
     Finding {
         verdict: ONLY_FIRST,
-        p: a + 1,
+        p: a as u32 + 1,
         q: 0,
         r: 0,
         s: 0,
@@ -152,7 +152,7 @@ fn only_second(b: usize) -> Finding
         p: 0,
         q: 0,
         r: 0,
-        s: b + 1,
+        s: b as u32 + 1,
     }
 }
 
@@ -185,10 +185,10 @@ fn hindrance(
     }
     Finding {
         verdict: ORDER,
-        p: a + 1,
-        q: behind + 1,
-        r: found + 1,
-        s: b + 1,
+        p: a as u32 + 1,
+        q: behind as u32 + 1,
+        r: found as u32 + 1,
+        s: b as u32 + 1,
     }
 }
 

@@ -2,6 +2,7 @@
 ghost use mathlib.Core.Path.{_≡_};
 ghost use Prim.Native.Nat.{_+_, _*_, _≤_};
 ghost use lib.ListN.{length, getD};
+ghost use Rattle.rules.specs.Limits.{historyLength};
 ghost use Rattle.histories.specs.Difference.{entryAt, sameWrite, noWrite, entries, common, difference};
 ghost use Rattle.histories.specs.Reads.{writeOf};
 
@@ -13,7 +14,7 @@ pub struct Entry {
 
 // The place, from 1, of the first entry in which two histories differ, and that entry in each: 0 and 0 where a history has no such entry. All 0 where they agree.
 pub struct Parting {
-    pub at: usize,
+    pub at: u32,
     pub one: Entry,
     pub other: Entry,
 }
@@ -69,7 +70,7 @@ fn common(one: &[u8], n: usize, other: &[u8], m: usize) -> usize
 
 // Compares n entries of the one part with m of the other.
 pub fn difference(one: &[u8], n: usize, other: &[u8], m: usize) -> Parting
-    requires { ⌜ (4 * n ≤ length (now one)) × (4 * m ≤ length (now other)) ⌝ }
+    requires { ⌜ (n ≤ historyLength) × (4 * n ≤ length (now one)) × (4 * m ≤ length (now other)) ⌝ }
     ensures { λ r. ⌜ r ≡ difference (entries (now (one .entry)) n) (entries (now (other .entry)) m) ⌝ }
 {
     let i = common(one, n, other, m);
@@ -84,7 +85,7 @@ pub fn difference(one: &[u8], n: usize, other: &[u8], m: usize) -> Parting
     let a = entry_of(one, n, i);
     let b = entry_of(other, m, i);
     Parting {
-        at: i + 1,
+        at: i as u32 + 1,
         one: a,
         other: b,
     }

@@ -12,6 +12,7 @@ use Rattle.comparing.proofs.hindrance.Tie as tie
 below : {a b : ℕ} → a ≤ b → a ≢ b → a < b
 below h d = omega arith
 
+
 read-record-requires : tie.Need-read-record-requires
 read-record-requires c κs = search needs
 
@@ -22,7 +23,7 @@ only-first-requires : tie.Need-only-first-requires
 only-first-requires c κs = search needs
 
 returns : tie.Need-returns
-returns c =
+returns c = 
     let found = c .before .before .before in
     let start = found .before .before .before .before .before in
     let x = start .args in
@@ -41,7 +42,7 @@ only-second-requires : tie.Need-only-second-requires
 only-second-requires c κs = search needs
 
 returns-2 : tie.Need-returns-2
-returns-2 c =
+returns-2 c = 
     let behind = c .before .before .before in
     let found = behind .before .before .before .before in
     let start = found .before .before .before .before .before in
@@ -50,20 +51,32 @@ returns-2 c =
     ∙ no-first (x .one .nodes) (recordAt (x .first .now)) (recordAt (x .second .now)) (x .one .count) (x .other .count) (x .letters .now) (x .a) (x .b) (start .pre .3) (found .before .read-record .ensures) (found .find-left .ensures) (below (found .find-left .ensures .high) (behind .before .before .if1 .left))
     (behind .before .read-record2 .ensures) (behind .find-record .ensures) (omega arith)
 
-add-t13 : tie.Need-add-t13
-add-t13 c = search needs
-
-add-t14 : tie.Need-add-t14
-add-t14 c = search needs
+cast-t14 : tie.Need-cast-t14
+cast-t14 c = search needs
 
 add-t15 : tie.Need-add-t15
 add-t15 c = search needs
 
-add-t16 : tie.Need-add-t16
-add-t16 c = search needs
+cast-t16 : tie.Need-cast-t16
+cast-t16 c = search needs
+
+add-t17 : tie.Need-add-t17
+add-t17 c = search needs
+
+cast-t18 : tie.Need-cast-t18
+cast-t18 c = search needs
+
+add-t19 : tie.Need-add-t19
+add-t19 c = search needs
+
+cast-t20 : tie.Need-cast-t20
+cast-t20 c = search needs
+
+add-t21 : tie.Need-add-t21
+add-t21 c = search needs
 
 returns-3 : tie.Need-returns-3
-returns-3 c =
+returns-3 c = 
     let behind = c .before .before in
     let found = behind .before .before .before .before in
     let start = found .before .before .before .before .before in
@@ -84,8 +97,12 @@ hindrance-spec =
     find-record-requires
     only-second-requires
     returns-2
-    add-t13
-    add-t14
+    cast-t14
     add-t15
-    add-t16
+    cast-t16
+    add-t17
+    cast-t18
+    add-t19
+    cast-t20
+    add-t21
     returns-3)

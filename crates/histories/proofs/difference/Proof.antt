@@ -22,8 +22,15 @@ entry-of-requires c κs = search needs
 entry-of-requires-2 : tie.Need-entry-of-requires-2
 entry-of-requires-2 c κs = search needs
 
-add-t12 : tie.Need-add-t12
-add-t12 c = let x = c .before .before .before .before .before .before .args in
+cast-t12 : tie.Need-cast-t12
+cast-t12 c = let x = c .before .before .before .before .before .before .args in
+    let low = common-le (entries (x .one .now) (x .n)) (entries (x .other .now) (x .m)) in
+    let size = table-length (x .n) (entryAt (x .one .now)) in
+    let is = c .before .before .before .common .ensures in
+    omega arith
+
+add-t13 : tie.Need-add-t13
+add-t13 c = let x = c .before .before .before .before .before .before .args in
     let low = common-le (entries (x .one .now) (x .n)) (entries (x .other .now) (x .m)) in
     let size = table-length (x .n) (entryAt (x .one .now)) in
     let is = c .before .before .before .common .ensures in
@@ -38,4 +45,11 @@ returns-2 c = let x = c .before .before .before .before .before .before .args in
 pub difference-spec : {M : Type 1} → statement M
 difference-spec =
     tie.close
-    (tie.spec common-requires returns entry-of-requires entry-of-requires-2 add-t12 returns-2)
+    (tie.spec
+    common-requires
+    returns
+    entry-of-requires
+    entry-of-requires-2
+    cast-t12
+    add-t13
+    returns-2)
