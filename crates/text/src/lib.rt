@@ -35,7 +35,7 @@ fn put_number(buf: &mut [u8], at: usize, n: u32, ending: u8) -> usize
     put_byte(buf, next, ending)
 }
 
-fn put_word(buf: &mut [u8], at: usize, word: &[u8]) -> usize
+pub fn put_word(buf: &mut [u8], at: usize, word: &[u8]) -> usize
     requires { ⌜ Room (now buf) at (now word) ⌝ }
     ensures { λ r. ⌜ Put (now (buf .entry)) at (now (word .entry)) (now (buf .exit)) r ⌝ }
 {
