@@ -41,7 +41,7 @@ module _ (ns : List ℕ) where
     room-left {l} {m} {at} {a} r p =
         let rest = spaced (drop (i + 1) ns) in
         let all : spaced ns ≡ (spaced (take i ns) ++ ((blank ∷ []) ++ decimal (getD ns i 0))) ++ rest =
-            ap spaced (sym (take-append-drop (i + 1) ns)) ∙ spaced-append (take (i + 1) ns) (drop (i + 1) ns) ∙ ap (λ (x : List ℕ). x ++ rest) one-more in
+        ap spaced (sym (take-append-drop (i + 1) ns)) ∙ spaced-append (take (i + 1) ns) (drop (i + 1) ns) ∙ ap (λ (x : List ℕ). x ++ rest) one-more in
         room-then p (room-first rest (rw all at r))
 
     pub room-blank : {l m : List ℕ} {at a : ℕ} → Room l at (spaced ns) → Put l at (spaced (take i ns)) m a → Room m a (blank ∷ [])
@@ -55,14 +55,21 @@ module _ (ns : List ℕ) where
 
 -- ---- how long a line is, of numbers that fit 32 bits
 
-pub spaced-width : (ns : List ℕ) → All (λ n. n < 4294967296) ns → length (spaced ns) ≤ 11 * length ns
+spaced-width : (ns : List ℕ) → ((i : ℕ) → getD ns i 0 < 4294967296) → length (spaced ns) ≤ 11 * length ns
 unfolding spaced
 spaced-width [] h = omega arith
 spaced-width (n ∷ ns) h =
-    let w = width n 9 (let k = h .0 in omega arith) in
-    let r = spaced-width ns (h .1) in
+    let w = width n 9 (let k = h 0 in omega arith) in
+    let r = spaced-width ns (λ i. h (suc i)) in
     simp length-append (omega arith)
 
-pub line-width : (word ns : List ℕ) → All (λ n. n < 4294967296) ns → length (line word ns) ≤ length word + 11 * length ns + 1
-unfolding line
-line-width word ns h = let w = spaced-width ns h in simp length-append (omega arith)
+module _ (word ns : List ℕ) (small : (i : ℕ) → getD ns i 0 < 4294967296) where
+  line-width : length (line word ns) ≤ length word + 11 * length ns + 1
+  unfolding line
+  line-width = let w = spaced-width ns small in simp length-append (omega arith)
+
+  pub line-room : {l : List ℕ} {at : ℕ} → at + (length word + 11 * length ns + 1) ≤ length l → Room l at (line word ns)
+  line-room h = record { enough = let w = line-width in omega arith }
+
+  pub line-end : {l m : List ℕ} {at i : ℕ} → Put l at (line word ns) m i → i ≤ at + (length word + 11 * length ns + 1)
+  line-end p = let w = line-width in let z = p .place in omega arith
