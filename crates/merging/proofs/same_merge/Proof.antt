@@ -17,7 +17,7 @@ cast-result : tie.Need-cast-result
 cast-result c = search needs
 
 returns : tie.Need-returns
-returns c = 
+returns c =
     let x = c .before .before .before .before .before .before .before .args in
     let is = told-short (x .first .now) (x .second .now) (x .places .now) (c .before .before .before .if1 .taken) (code-good _ _ (c .before .before .read-trailer .ensures) (c .if2 .taken)) in
     (ap (λ (t : Told). t .returned) (sym is), ap (λ (t : Told). t .places) (sym is))
@@ -26,7 +26,7 @@ cast-result-2 : tie.Need-cast-result-2
 cast-result-2 c = search needs
 
 returns-2 : tie.Need-returns-2
-returns-2 c = 
+returns-2 c =
     let x = c .before .before .before .before .before .before .before .before .args in
     let e = c .before .before .before .read-trailer .ensures in
     let is = told-first (x .first .now) (x .second .now) (x .places .now) (c .before .before .before .before .if1 .taken) (code-bad _ _ e (c .before .if2 .left)) in
@@ -42,15 +42,16 @@ same-length : tie.Need-same-length
 same-length c = search needs
 
 returns-3 : tie.Need-returns-3
-returns-3 c = 
+returns-3 c =
     let x = c .before .before .before .before .before .before .before .before .before .before .before .args in
     let e = c .before .before .before .before .before .before .compare .ensures in
-    let is = told-places (x .first .now) (x .second .now) (x .places .now) (c .before .before .before .before .before .before .before .if1 .left) (subst (λ (f : Finding). 256 ≤ f .verdict) e (c .before .before .before .before .if3 .taken)) in
-    (ap (λ (f : Finding). f .verdict) e ∙ ap (λ (t : Told). t .returned) (sym is),
-        c .before .before .put-places .ensures ∙ ap (λ (f : Finding). over (placeBytes f) (x .places .now)) e ∙ ap (λ (t : Told). t .places) (sym is))
+    let is = told-places (x .first .now) (x .second .now) (x .places .now) (c .before .before .before .before .before .before .before .if1 .left) (subst (λ (f : Finding). 256 ≤ f .verdict) e (c .before .before .before .before .if3 .taken)) in (
+      ap (λ (f : Finding). f .verdict) e ∙ ap (λ (t : Told). t .returned) (sym is),
+      c .before .before .put-places .ensures ∙ ap (λ (f : Finding). over (placeBytes f) (x .places .now)) e ∙ ap (λ (t : Told). t .places) (sym is),
+    )
 
 returns-4 : tie.Need-returns-4
-returns-4 c = 
+returns-4 c =
     let x = c .before .before .before .before .before .before .before .args in
     let e = c .before .before .compare .ensures in
     let is = told-refused (x .first .now) (x .second .now) (x .places .now) (c .before .before .before .if1 .left) (subst (λ (f : Finding). f .verdict < 256) e (c .if3 .left)) in
