@@ -15,9 +15,9 @@ use Rattle.runner.specs.Refusing.{ran-all}
 use Rattle.transcript.specs.Reading.{all-answered, few-writes}
 use Rattle.text.specs.Put.{Put}
 use Rattle.text.specs.Puts.{put-then}
-use Rattle.histories.specs.declared.Parting.{Parting}
-use Rattle.histories.specs.Difference.{difference, entries}
-use Rattle.histories.specs.Entries.{written}
+use Rattle.partings.specs.declared.Parting.{Parting}
+use Rattle.partings.specs.Difference.{difference, entries}
+use Rattle.partings.specs.Entries.{written}
 use Rattle.report.specs.Line.{line}
 use Rattle.report.specs.Words as W
 use Rattle.report.specs.Report.{partingLine, history, runsText}

@@ -2,8 +2,8 @@
 use Prim.Native.Nat.{_+_, _*_}
 use native.Mathlib.Omega.{arith}
 use borrow.Author.Needs.{needs}
-use Rattle.histories.proofs.entry_at.Statement.{statement}
-use Rattle.histories.proofs.entry_at.Tie as tie
+use Rattle.partings.proofs.entry_at.Statement.{statement}
+use Rattle.partings.proofs.entry_at.Tie as tie
 
 mul-node : tie.Need-mul-node
 mul-node c = search needs

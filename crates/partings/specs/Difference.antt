@@ -7,8 +7,8 @@ use lib.ListN.{length, getD}
 use Rattle.rules.specs.State.{Write}
 use Rattle.seqs.specs.Tables.{table}
 use Rattle.lists.specs.EventList.{byteAt}
-use Rattle.histories.specs.declared.Entry.{Entry}
-use Rattle.histories.specs.declared.Parting.{Parting}
+use Rattle.partings.specs.declared.Entry.{Entry}
+use Rattle.partings.specs.declared.Parting.{Parting}
 
 -- ---- histories
 

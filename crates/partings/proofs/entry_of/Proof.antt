@@ -1,9 +1,9 @@
 -- `entry_of` meets its contract. Assumes nothing.
 use mathlib.Core.Path.{_∙_}
-use Rattle.histories.specs.Entries.{entry-inside, entry-beyond}
+use Rattle.partings.specs.Entries.{entry-inside, entry-beyond}
 use borrow.Author.Needs.{needs}
-use Rattle.histories.proofs.entry_of.Statement.{statement}
-use Rattle.histories.proofs.entry_of.Tie as tie
+use Rattle.partings.proofs.entry_of.Statement.{statement}
+use Rattle.partings.proofs.entry_of.Tie as tie
 
 entry-at-requires : tie.Need-entry-at-requires
 entry-at-requires c κs = search needs

@@ -11,9 +11,9 @@ use lib.ListN.{length, getD, List·getD-eq-default}
 use Rattle.rules.specs.State.{Write}
 use Rattle.seqs.specs.Tables.{table, table-get, table-of, table-length}
 use Rattle.lists.specs.EventList.{byteAt, historyBytes}
-use Rattle.histories.specs.Difference.{sameWrite, oneMore, common, noWrite, entryOf, agrees, differsAt, difference, entryAt, entries}
-use Rattle.histories.specs.declared.Entry.{Entry}
-use Rattle.histories.specs.Reads.{writeOf}
+use Rattle.partings.specs.Difference.{sameWrite, oneMore, common, noWrite, entryOf, agrees, differsAt, difference, entryAt, entries}
+use Rattle.partings.specs.declared.Entry.{Entry}
+use Rattle.partings.specs.Reads.{writeOf}
 
 -- ---- in common
 

@@ -2,12 +2,12 @@
 use mathlib.Core.Path.{_≡_, ap₂, sym, _∙_}
 use Prim.Native.Nat.{_-_}
 use borrow.Author.Tests.{not-true, not-false}
-use Rattle.histories.specs.Difference.{sameWrite, entryAt}
-use Rattle.histories.specs.Entries.{Shared, shared-none, shared-more, shared-all}
+use Rattle.partings.specs.Difference.{sameWrite, entryAt}
+use Rattle.partings.specs.Entries.{Shared, shared-none, shared-more, shared-all}
 use borrow.Author.Needs.{needs}
 use native.Mathlib.Omega.{arith}
-use Rattle.histories.proofs.common.Statement.{statement}
-use Rattle.histories.proofs.common.Tie as tie
+use Rattle.partings.proofs.common.Statement.{statement}
+use Rattle.partings.proofs.common.Tie as tie
 
 abbrev Inv-loop : tie.InvT-loop
 Inv-loop one n other m i₀ i = Shared (entryAt one) (entryAt other) n m i

@@ -3,11 +3,11 @@ use mathlib.Core.Path.{ap, sym, _∙_}
 use mathlib.Core.Bool.{Bool, cond}
 use native.Mathlib.Omega.{arith}
 use Rattle.seqs.specs.Tables.{table-length}
-use Rattle.histories.specs.Difference.{agrees, differsAt, entryAt, entries}
-use Rattle.histories.specs.Entries.{common-le, parted, differs-in}
+use Rattle.partings.specs.Difference.{agrees, differsAt, entryAt, entries}
+use Rattle.partings.specs.Entries.{common-le, parted, differs-in}
 use borrow.Author.Needs.{needs}
-use Rattle.histories.proofs.difference.Statement.{statement}
-use Rattle.histories.proofs.difference.Tie as tie
+use Rattle.partings.proofs.difference.Statement.{statement}
+use Rattle.partings.proofs.difference.Tie as tie
 
 common-requires : tie.Need-common-requires
 common-requires c κs = search needs
