@@ -79,8 +79,8 @@ module _ (b : Body) (n : ℕ) (a : At b n) where
   row-goes writes k r z = record {
     asks = row-asks k r;
     roomy = λ e. ⊎-elim
-        (λ (f : k ≡ 4). sends _ _ (send-update-answer (b .count) (nodeOf b n) (streamOf b n) (stream-ordered b n a) n ∙ at 4 f))
-        (λ (f : k ≡ 6). sends _ _ (send-write-answer (b .count) (nodeOf b n) (streamOf b n) (stream-ordered b n a) n ∙ at 6 f)) e;
+        (λ (f : k ≡ 4). sends (R.sendUpdateRule n .allowed (senderOf (b .count) (nodeOf b n) (streamOf b n))) _ (send-update-answer (b .count) (nodeOf b n) (streamOf b n) (stream-ordered b n a) n ∙ at 4 f))
+        (λ (f : k ≡ 6). sends (R.sendWriteRule n .allowed (senderOf (b .count) (nodeOf b n) (streamOf b n))) _ (send-write-answer (b .count) (nodeOf b n) (streamOf b n) (stream-ordered b n a) n ∙ at 6 f)) e;
     waits = λ f. waits b n a (is-true _ (receive-update-answer (b .count) (nodeOf b n) (streamOf b n) n ∙ at 5 f));
     can-write = λ f. write-can (b .count) n (b .running) (streamOf b n) (b .core .claims) writes (at-stream b n a) (at 11 f);
   }
@@ -139,3 +139,12 @@ module _ (b : Body) (n : ℕ) (a : At b n) where
         (receive-write-yes b n a history (is-true _ (receive-write-answer (b .count) (nodeOf b n) (streamOf b n) ∙ z)) _ refl _ (quiet-moved 7 _))
     row-leaves _ connect h z = called-leaves b n history 8 R.connect refl is-node (link-yes b n a history R.connectRule z _ refl _ (quiet-moved 8 _))
     row-leaves _ handleWrite h z = called-leaves b n history 11 R.handleWrite refl is-node (write-leaves z)
+
+  pub row-entry : (k : ℕ) → RowKind k → k ≢ 3 → rowAfter (askOf b k n) (nodeOf b n) (streamOf b n) (b .core .claims) .entry .node ≡ n
+  row-entry _ learns h = absurd (h refl)
+  row-entry _ sendUpdate h = refl
+  row-entry _ receiveUpdate h = refl
+  row-entry _ sendWrite h = refl
+  row-entry _ receiveWrite h = refl
+  row-entry _ connect h = refl
+  row-entry _ handleWrite h = refl
