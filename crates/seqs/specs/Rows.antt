@@ -52,12 +52,13 @@ module _ {A : Type 0} (f : A → A) where
   mapFrom-none (suc n) [] = refl
   mapFrom-none (suc n) (x ∷ l) = ap (λ (t : List A). x ∷ t) (mapFrom-none n l)
 
-  less : (i n : ℕ) (l : List A) (d : A) → i < n → i < length l → mapFrom (suc i) n (set l i (f (getD l i d))) ≡ mapFrom i n l
-  less i zero l d h k = absurd (omega arith)
-  less i (suc n) [] d h k = absurd (omega arith)
-  less zero (suc n) (x ∷ l) d h k = refl
-  less (suc i) (suc n) (x ∷ l) d h k = ap (λ (t : List A). x ∷ t) (less i n l d (le-of-suc-le-suc h) (le-of-suc-le-suc k))
+  less : (i n : ℕ) (l : List A) (d : A) → i < n → mapFrom (suc i) n (set l i (f (getD l i d))) ≡ mapFrom i n l
+  less i zero l d h = absurd (omega arith)
+  less zero (suc n) [] d h = refl
+  less (suc i) (suc n) [] d h = refl
+  less zero (suc n) (x ∷ l) d h = refl
+  less (suc i) (suc n) (x ∷ l) d h = ap (λ (t : List A). x ∷ t) (less i n l d (le-of-suc-le-suc h))
 
   -- a loop stores f of row i
-  pub mapFrom-step : (i n : ℕ) (l : List A) (d x : A) → x ≡ f (getD l i d) → i < n → i < length l → mapFrom (i + 1) n (set l i x) ≡ mapFrom i n l
-  mapFrom-step i n l d x e h k = rw (e, add-one i) (less i n l d h k)
+  pub mapFrom-step : (i n : ℕ) (l : List A) (d x : A) → x ≡ f (getD l i d) → i < n → mapFrom (i + 1) n (set l i x) ≡ mapFrom i n l
+  mapFrom-step i n l d x e h = rw (e, add-one i) (less i n l d h)
