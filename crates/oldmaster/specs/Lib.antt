@@ -1,0 +1,5 @@
+pub mod KeptOut
+pub mod Change
+pub mod Invariant
+pub mod Steps
+pub mod OldMaster

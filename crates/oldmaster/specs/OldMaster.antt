@@ -1,0 +1,198 @@
+-- Why an old master can't get in: the law holds from fresh on, and says what is claimed of the history. Assumes nothing.
+use mathlib.Core.Path.{_≡_, refl, sym, ap, ap₂, _∙_}
+use mathlib.Core.Logic.{_≢_, _⊎_, inl, inr}
+use mathlib.Core.List.{List, [], _∷_, _++_, append-nil, append-assoc, List·Memᴰ, List·Memᴰ·head, List·Memᴰ·tail, List·Memᴰ·not-nil}
+use Prim.Native.Nat.{ℕ, zero, suc, _-_, _≤_}
+use native.Mathlib.Omega.{arith}
+use lib.ListN.{length, getD, replicate, length-append}
+use lib.Seq.{append-snoc}
+use lib.Dec.{T}
+use Rattle.rules.specs.State.{Mastership, Request, Write, State, blank}
+use Rattle.rules.specs.Queues.{first}
+use Rattle.rules.specs.Rules.{noRequest}
+use Rattle.rules.specs.Step.{Event, step, fresh}
+use Rattle.rules.specs.Run.{run}
+use Rattle.laws.specs.InRange.{All, WriteFits}
+use Rattle.laws.specs.RangeTest.{range-sound}
+use Rattle.laws.specs.Steps.{step-count, run-keeps, fresh-fits}
+use Rattle.oldmaster.specs.KeptOut.{stateAfter, serviceAfter, historyAfter, Named, NoOther, Accepted, KeptOut, OldMastersKeptOut}
+use Rattle.oldmaster.specs.Change.{rowAt, eventsAt, serviceOf, HistoryChange, kept, Accepts, accepts, Change}
+use Rattle.oldmaster.specs.Invariant.{by, Lawful, Also, terms-agree, lawful-step}
+use Rattle.oldmaster.specs.Steps.{step-changes}
+
+-- ---- lists that end in x
+
+module _ {A : Type 0} where
+  nothing-before : (before behind : List A) → before ++ behind ≡ [] → before ≡ []
+  nothing-before [] behind e = refl
+  nothing-before (y ∷ before) behind e = let z : _≡_ {A = ℕ} 0 1 = cc in absurd (omega arith)
+
+  -- The second of two parts is not all there is, and x is at its end.
+  record EndsIn (before behind l : List A) (x : A) : Type 0 where
+    rest : List A
+    splits : before ++ rest ≡ l
+    ends : behind ≡ rest ++ (x ∷ [])
+
+  last-part : (before behind l : List A) (x : A) → before ++ behind ≡ l ++ (x ∷ []) → (before ≡ l ++ (x ∷ [])) ⊎ EndsIn before behind l x
+  last-part [] behind l x e = inr (record { rest = l; splits = refl; ends = e })
+  last-part (y ∷ before) behind [] x e = let n = nothing-before before behind (cc) in inl (cc)
+  last-part (y ∷ before) behind (z ∷ l) x e = go (last-part before behind l x (cc))
+    where
+      go : (before ≡ l ++ (x ∷ [])) ⊎ EndsIn before behind l x → (y ∷ before ≡ z ∷ l ++ (x ∷ [])) ⊎ EndsIn (y ∷ before) behind (z ∷ l) x
+      go (inl p) = inl (cc)
+      go (inr k) = let s = k .splits in inr (record { rest = k .rest; splits = cc; ends = k .ends })
+
+  all-member : (P : A → Type 0) (x : A) (l : List A) → All P l → List·Memᴰ x l → P x
+  all-member P x (y ∷ l) h (List·Memᴰ·head e) = rw e (h .0)
+  all-member P x (y ∷ l) h (List·Memᴰ·tail m) = all-member P x l (h .1) m
+
+  -- What holds of no step, and of one more where it held, holds of every list.
+  one-by-one : (P : List A → Type 0) → P [] → ((l : List A) (x : A) → P l → P (l ++ (x ∷ []))) → (l : List A) → P l
+  one-by-one P p f l = go [] l p
+    where
+      go : (before behind : List A) → P before → P (before ++ behind)
+      go before [] p = rw append-nil p
+      go before (x ∷ behind) p = rw append-snoc at (go (before ++ (x ∷ [])) behind (f before x p))
+
+-- ---- moments
+
+run-more : (s : State) (es : List Event) (e : Event) → run step s (es ++ (e ∷ [])) .state ≡ step e (run step s es .state) .state
+run-more s [] e = refl
+run-more s (x ∷ es) e = run-more (step x s .state) es e
+
+module _ (count : ℕ) where
+  named-now : (es : List Event) → Named count es (by (serviceAfter count es))
+  named-now es = record { before = es; behind = []; splits = append-nil es; master = refl; term = refl }
+
+  module _ (es : List Event) (e : Event) where
+    named-later : (w : Write) → Named count es w → Named count (es ++ (e ∷ [])) w
+    named-later w k = record {
+      before = k .before;
+      behind = k .behind ++ (e ∷ []);
+      splits = sym (append-assoc (k .before) (k .behind) (e ∷ [])) ∙ ap (λ l. l ++ (e ∷ [])) (k .splits);
+      master = k .master;
+      term = k .term;
+    }
+
+    named-earlier : (w : Write) → Named count (es ++ (e ∷ [])) w → Named count es w ⊎ (w ≡ by (serviceAfter count (es ++ (e ∷ []))))
+    named-earlier w k = go (last-part (k .before) (k .behind) es e (k .splits))
+      where
+        go : (k .before ≡ es ++ (e ∷ [])) ⊎ EndsIn (k .before) (k .behind) es e → Named count es w ⊎ (w ≡ by (serviceAfter count (es ++ (e ∷ []))))
+        go (inl p) = let write : ℕ → ℕ → Write = λ n t. record { node = n; term = t } in inr (rw (← p) (ap₂ write (sym (k .master)) (sym (k .term))))
+        go (inr p) = inl (record { before = k .before; behind = p .rest; splits = p .splits; master = k .master; term = k .term })
+
+    changed : Change e (stateAfter count es) (stateAfter count (es ++ (e ∷ [])))
+    changed = rw (run-more (fresh count) es e) (step-changes e (stateAfter count es))
+
+    lawful-more : Lawful (Named count es) (stateAfter count es) → Lawful (Named count (es ++ (e ∷ []))) (stateAfter count (es ++ (e ∷ [])))
+    lawful-more h = lawful-step (rw (run-more (fresh count) es e) (step-count e (stateAfter count es))) (named-now es)
+        (record { before = named-later; now = named-now (es ++ (e ∷ [])); only = named-earlier }) h changed
+
+  lawful-fresh : Lawful (Named count []) (fresh count)
+  unfolding fresh
+  lawful-fresh = record {
+    once = λ x y p q a. absurd (a (nobody x p .0));
+    bound = λ x p. let z = nobody x p .1 in omega arith;
+    events = λ i m k. absurd (List·Memᴰ·not-nil (rw (same {A = List Mastership} count [] i) at k));
+    rows = λ i. rw (same count blank i, same {A = ℕ} count 0 i, same {A = List Request} count [] i) (record { learned = λ z. absurd (omega arith); climbs = omega arith; requests = tt; id = omega arith });
+    history = record { named = tt; below = tt; rising = tt };
+  }
+    where
+      nobody : (x : Write) → Named count [] x → (x .node ≡ 0) × (x .term ≡ 0)
+      nobody x k = let e = nothing-before (k .before) (k .behind) (k .splits) in (sym (rw e at (k .master)), sym (rw e at (k .term)))
+
+      same : {A : Type 0} (n : ℕ) (x : A) (i : ℕ) → getD (replicate n x) i x ≡ x
+      same zero x i = refl
+      same (suc n) x zero = refl
+      same (suc n) x (suc i) = same n x i
+
+  lawful : (es : List Event) → Lawful (Named count es) (stateAfter count es)
+  lawful = one-by-one (λ es. Lawful (Named count es) (stateAfter count es)) lawful-fresh lawful-more
+
+  -- ---- the step that accepted a write
+
+  accepted-later : (es : List Event) (e : Event) {old : List Write} {w : Write} → Accepted count es old w → Accepted count (es ++ (e ∷ [])) old w
+  accepted-later es e a = record {
+    before = a .before;
+    handled = a .handled;
+    behind = a .behind ++ (e ∷ []);
+    splits = sym (append-assoc (a .before) (a .handled ∷ a .behind) (e ∷ [])) ∙ ap (λ l. l ++ (e ∷ [])) (a .splits);
+    kind = a .kind;
+    node = a .node;
+    was = a .was;
+    became = a .became;
+    recorded = a .recorded;
+    tested = a .tested;
+  }
+
+  -- The last step accepted a write.
+  accepted-now : (es : List Event) (e : Event) (a : Accepts e (stateAfter count es) (stateAfter count (es ++ (e ∷ []))))
+      → Accepted count (es ++ (e ∷ [])) (historyAfter count es) (record { node = e .node; term = a .request .term })
+  unfolding first
+  accepted-now es e a = record {
+    before = es;
+    handled = e;
+    behind = [];
+    splits = refl;
+    kind = a .kind;
+    node = refl;
+    was = refl;
+    became = a .recorded;
+    recorded = ap (λ q. first noRequest q .term) (a .head);
+    tested = terms-agree (lawful es .rows (e .node - 1)) (a .head) (a .is-write) (a .by-id);
+  }
+
+  abbrev Traced : List Event → Type 0
+  Traced es = (old new : List Write) (w : Write) → old ++ w ∷ new ≡ historyAfter count es → Accepted count es old w
+
+  traced-more : (es : List Event) (e : Event) → Traced es → Traced (es ++ (e ∷ []))
+  traced-more es e f old new w p = go (changed es e .history)
+    where
+      -- The history, where one write has joined it: the write is that one, or was there.
+      split : (a : Accepts e (stateAfter count es) (stateAfter count (es ++ (e ∷ [])))) (rest : List Write) → old ++ rest ≡ historyAfter count es
+          → w ∷ new ≡ rest ++ (record { node = e .node; term = a .request .term } ∷ []) → Accepted count (es ++ (e ∷ [])) old w
+      split a [] q z =
+          let was : old ≡ historyAfter count es = sym (append-nil old) ∙ q in
+          let is : w ≡ record { node = e .node; term = a .request .term } = cc in
+          rw (was, is) (accepted-now es e a)
+      split a (x ∷ rest) q z = accepted-later es e (f old rest w (cc))
+
+      go : HistoryChange e (stateAfter count es) (stateAfter count (es ++ (e ∷ []))) → Accepted count (es ++ (e ∷ [])) old w
+      go (kept h l) = accepted-later es e (f old new w (p ∙ h))
+      go (accepts a) = part (last-part old (w ∷ new) (historyAfter count es) _ (p ∙ a .recorded))
+        where
+          part : (old ≡ historyAfter count es ++ (record { node = e .node; term = a .request .term } ∷ []))
+              ⊎ EndsIn old (w ∷ new) (historyAfter count es) (record { node = e .node; term = a .request .term }) → Accepted count (es ++ (e ∷ [])) old w
+          part (inl q) = let z : length (old ++ w ∷ new) ≡ length old = ap length (p ∙ a .recorded ∙ sym q) in let n = length-append old (w ∷ new) in absurd (omega arith)
+          part (inr k) = split a (k .rest) (k .splits) (k .ends)
+
+  traced-fresh : Traced []
+  unfolding fresh
+  traced-fresh old new w p = let n = length-append old (w ∷ new) in let z : length (old ++ w ∷ new) ≡ 0 = ap length p in absurd (omega arith)
+
+  traced : (es : List Event) → Traced es
+  traced = one-by-one Traced traced-fresh traced-more
+
+-- ---- the statement
+
+pub kept-out : OldMastersKeptOut
+kept-out count es low high = record {
+  rising = h .history .rising;
+  one-node = λ x y p q e. h .once x y (named-in x p) (named-in y q) (some-node x p) (some-node y q) e;
+  named = named-in;
+  no-other = λ w p before behind q e z. h .once _ w (record { before = before; behind = behind; splits = q; master = refl; term = refl }) (named-in w p) z (some-node w p) e;
+  accepted = traced count es;
+}
+  where
+    h : Lawful (Named count es) (stateAfter count es)
+    h = lawful count es
+
+    named-in : (w : Write) → List·Memᴰ w (historyAfter count es) → Named count es w
+    named-in w p = all-member (Named count es) w (historyAfter count es) (lawful count es .history .named) p
+
+    some-node : (w : Write) → List·Memᴰ w (historyAfter count es) → w .node ≢ 0
+    some-node w p z =
+        let r = range-sound (stateAfter count es) (run-keeps es (fresh count) (fresh-fits count low high)) in
+        let k = all-member (WriteFits (stateAfter count es .count)) w (historyAfter count es) (r .history) p in
+        let n = k .node .lower in
+        omega arith
