@@ -1,0 +1,39 @@
+-- Why an old master can't get in, of the histories that users hold: the bytes that a run writes, and the lines that the program prints. `Read` proves
+-- it. Assumes nothing.
+use mathlib.Core.Path.{_≡_}
+use mathlib.Core.List.{List}
+use Prim.Native.Nat.{ℕ, _+_, _*_, _-_}
+use lib.ListN.{drop}
+use Rattle.rules.specs.State.{Write}
+use Rattle.seqs.specs.Tables.{table}
+use Rattle.lists.specs.EventList.{nodeCount, recordCount, records, refusal, byteAt}
+use Rattle.runner.specs.Ran.{noWrites, Ran, ran}
+use Rattle.transcript.specs.Transcript.{runText, transcript}
+use Rattle.oldmaster.specs.KeptOut.{KeptOut}
+
+-- ---- bytes
+
+-- The write that the four bytes of entry i say: node, 0, and the term with the least byte first.
+abbrev pub writeAt : List ℕ → ℕ → Write
+writeAt bytes i = record { node = byteAt bytes (4 * i); term = byteAt bytes (4 * i + 2) + 256 * byteAt bytes (4 * i + 3) }
+
+-- The writes that a run of the list has left in the buffer: behind the answers, as many as the number returned says, and none if it is a refusal.
+abbrev pub writesHeld : List ℕ → Ran → List Write
+writesHeld list r = table (r .returned - noWrites) (writeAt (drop (recordCount list) (r .out)))
+
+-- Of any list of bytes and any buffer.
+abbrev pub BytesKeptOut : Type 0
+BytesKeptOut = (list out : List ℕ) → KeptOut (nodeCount list) (records list) (writesHeld list (ran list out))
+
+-- ---- text
+
+-- The text ends in a line for each of the writes, and they are as claimed.
+pub record Printed (list text : List ℕ) : Type 0 where
+  pub answers : List ℕ
+  pub writes : List Write
+  pub lines : text ≡ runText list answers writes
+  pub kept-out : KeptOut (nodeCount list) (records list) writes
+
+-- Of any list of bytes that is not refused.
+abbrev pub PrintedKeptOut : Type 0
+PrintedKeptOut = (list : List ℕ) → refusal list ≡ 0 → Printed list (transcript list)
