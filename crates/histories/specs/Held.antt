@@ -17,9 +17,17 @@ use Rattle.oldmaster.specs.KeptOut.{KeptOut}
 abbrev pub writeAt : List ℕ → ℕ → Write
 writeAt bytes i = record { node = byteAt bytes (4 * i); term = byteAt bytes (4 * i + 2) + 256 * byteAt bytes (4 * i + 3) }
 
--- The writes that a run of the list has left in the buffer: behind the answers, as many as the number returned says, and none if it is a refusal.
+-- How many writes the number returned says: none for a refusal.
+abbrev pub writesReturned : Ran → ℕ
+writesReturned r = r .returned - noWrites
+
+-- The bytes behind the answers.
+abbrev pub historyPart : List ℕ → Ran → List ℕ
+historyPart list r = drop (recordCount list) (r .out)
+
+-- The writes that a run of the list has left in the buffer.
 abbrev pub writesHeld : List ℕ → Ran → List Write
-writesHeld list r = table (r .returned - noWrites) (writeAt (drop (recordCount list) (r .out)))
+writesHeld list r = table (writesReturned r) (writeAt (historyPart list r))
 
 -- Of any list of bytes and any buffer.
 abbrev pub BytesKeptOut : Type 0

@@ -1,27 +1,26 @@
 -- What is read from the bytes of a run, and what is printed, is the history of the run. Assumes nothing.
-use mathlib.Core.Path.{_≡_, refl, sym, ap, ap₂, _∙_}
-use mathlib.Core.Logic.{_≢_}
+use mathlib.Core.Path.{_≡_, refl, ap, ap₂, _∙_}
 use mathlib.Core.Bool.{Bool, true, false, cond}
 use mathlib.Core.List.{List, [], _∷_, _++_, append-assoc, List·Memᴰ·not-nil}
-use Prim.Native.Nat.{ℕ, suc, _+_, _*_, _-_, _/_, _%_, _≤_, _<_}
+use Prim.Native.Nat.{ℕ, suc, _+_, _*_, _-_, _/_, _%_, _<_}
 use native.Mathlib.Omega.{arith}
 use lib.ListN.{length, drop, length-append}
 use lib.Seq.{drop-at}
 use lib.Dec.{eqb, leb}
 use borrow.Author.Tests.{eq-eqb}
-use Rattle.rules.specs.Codes.{badLength, badTrailer, badNodeCount, badSum, bufferShort}
+use Rattle.rules.specs.Codes.{bufferShort}
 use Rattle.rules.specs.State.{Write}
 use Rattle.rules.specs.Step.{Event}
 use Rattle.laws.specs.Tests.{is-eq}
 use Rattle.seqs.specs.Tables.{table, table-ext}
 use Rattle.lists.specs.EventList.{nodeCount, recordCount, records, refusal, need, lengthFits, trailerFits, nodesFit, sumFits, byteAt, entryBytes, historyBytes}
 use Rattle.lists.specs.Good.{good}
-use Rattle.runner.specs.Ran.{historyRoom, noWrites, runRefusal, wholeRun, Ran, completed, ran}
-use Rattle.transcript.specs.Transcript.{runText, transcript}
+use Rattle.runner.specs.Ran.{historyRoom, noWrites, runRefusal, wholeRun, completed, ran}
+use Rattle.transcript.specs.Transcript.{transcript}
 use Rattle.transcript.specs.Reading.{all-answered}
 use Rattle.oldmaster.specs.KeptOut.{KeptOut}
 use Rattle.oldmaster.specs.OldMaster.{kept-out}
-use Rattle.histories.specs.Held.{writeAt, writesHeld, BytesKeptOut, Printed, PrintedKeptOut}
+use Rattle.histories.specs.Held.{writeAt, writesReturned, historyPart, writesHeld, BytesKeptOut, PrintedKeptOut}
 
 -- ---- the entries
 
@@ -34,12 +33,15 @@ next-write w l i =
     let at = further (w .node) 0 (w .term % 256) (w .term / 256) l in
     rw (at (4 * suc i) (4 * i) (omega arith), at (4 * suc i + 2) (4 * i + 2) (omega arith), at (4 * suc i + 3) (4 * i + 3) (omega arith))
 
+first-write : (w : Write) (l : List ℕ) → writeAt (entryBytes w ++ l) 0 ≡ w
+first-write w l = let write : ℕ → Write = λ t. record { node = w .node; term = t } in ap write (omega arith)
+
 writes-read : (ws : List Write) (l : List ℕ) → table (length ws) (writeAt (historyBytes ws ++ l)) ≡ ws
 unfolding historyBytes
 writes-read [] l = refl
 writes-read (w ∷ ws) l =
-    let term : w .term % 256 + 256 * (w .term / 256) ≡ w .term = omega arith in
-    rw (term, table-ext (length ws) (writeAt (historyBytes ws ++ l)) _ (next-write w (historyBytes ws ++ l)), writes-read ws l)
+    ap₂ (λ (x : Write) (xs : List Write). x ∷ xs) (first-write w (historyBytes ws ++ l))
+    (table-ext (length ws) (writeAt (historyBytes ws ++ l)) _ (next-write w (historyBytes ws ++ l)) ∙ writes-read ws l)
 
 -- ---- a refused run has written nothing
 
@@ -80,10 +82,12 @@ module _ (list : List ℕ) (accepted : refusal list ≡ 0) where
   held : (out : List ℕ) → writesHeld list (completed (wholeRun list) out) ≡ wholeRun list .state .history
   held out =
       let t = wholeRun list in
+      let r = completed t out in
       let b = historyBytes (t .state .history) in
       let rest = drop (length (t .answer ++ b)) out in
-      let count : noWrites + length (t .state .history) - noWrites ≡ length (t .state .history) = omega arith in
-      rw (count, append-assoc (t .answer) b rest, drop-at (t .answer) (b ++ rest) (recordCount list) (all-answered list (good list accepted))) (writes-read (t .state .history) rest)
+      let count : writesReturned r ≡ length (t .state .history) = omega arith in
+      let part : historyPart list r ≡ b ++ rest = ap (drop (recordCount list)) (append-assoc (t .answer) b rest) ∙ drop-at (t .answer) (b ++ rest) (recordCount list) (all-answered list (good list accepted)) in
+      ap₂ (λ (n : ℕ) (l : List ℕ). table n (writeAt l)) count part ∙ writes-read (t .state .history) rest
 
 -- ---- the statements
 

@@ -6,7 +6,7 @@ use mathlib.Core.Option.{some}
 use mathlib.Core.List.{List, [], _∷_, _++_, List·Memᴰ}
 use Prim.Native.Nat.{ℕ, suc, _+_, _-_, _≤_, _<_}
 use lib.ListN.{getD}
-use Rattle.rules.specs.State.{Mastership, Message, update, write, Request, Write, State, blank}
+use Rattle.rules.specs.State.{Mastership, update, write, Request, State, blank}
 use Rattle.rules.specs.Queues.{push}
 use Rattle.rules.specs.Ids.{electionId}
 use Rattle.rules.specs.Rules.{handleWrite}
@@ -42,13 +42,12 @@ pub data Follows (m m′ : Mastership) : Type 0 where
   begins : m′ .term ≡ m .term + 1 → Follows m m′
   stays : m′ .term ≡ m .term → (m′ .master ≢ 0 → m′ .master ≡ m .master) → Follows m m′
 
--- 4, 6: what the node of place i sends by what it learned. No id is above its term's master's id; a write has just that, and comes from that master.
-pub record Sent (count i : ℕ) (m : Mastership) (r : Request) : Type 0 where
-  pub term : r .term ≡ m .term
-  pub id : r .id ≤ mastersId count (m .term)
-  pub write-id : r .message ≡ write → r .id ≡ mastersId count (m .term)
-  pub write-term : r .message ≡ write → 0 < m .term
-  pub write-node : r .message ≡ write → m .master ≡ suc i
+-- 4, 6: what the node of place i sends by the mastership m that it learned.
+pub data Sent (count i : ℕ) (m : Mastership) : Request → Type 0 where
+  -- No id is above that of its term's master.
+  an-update : (id : ℕ) → id ≤ mastersId count (m .term) → Sent count i m (record { message = update; id = id; term = m .term })
+  -- It comes from its term's master, and has that master's id.
+  a-write : 0 < m .term → m .master ≡ suc i → Sent count i m (record { message = write; id = mastersId count (m .term); term = m .term })
 
 -- The row x at place i, where `events` waited for its node, and what becomes of it.
 pub data RowChange (count i : ℕ) (events : List Mastership) (x : Row) : Row → Type 0 where

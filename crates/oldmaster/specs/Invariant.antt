@@ -4,14 +4,14 @@ use mathlib.Core.Logic.{_≢_, _⊎_, inl, inr}
 use mathlib.Core.List.{List, [], _∷_, _++_, List·Memᴰ}
 use Prim.Native.Nat.{ℕ, suc, _-_, _≤_, _<_}
 use native.Mathlib.Omega.{arith}
-use Rattle.rules.specs.State.{Mastership, write, Request, Write, State}
+use Rattle.rules.specs.State.{Mastership, update, write, Request, Write, State}
 use Rattle.rules.specs.Queues.{push}
 use Rattle.rules.specs.Ids.{electionId}
 use Rattle.rules.specs.Step.{Event}
 use Rattle.laws.specs.InRange.{All}
 use Rattle.laws.specs.Lists.{all-with, all-append, all-push}
 use Rattle.oldmaster.specs.KeptOut.{Rising}
-use Rattle.oldmaster.specs.Change.{Row, rowAt, eventsAt, serviceOf, lastOf, mastersId, Follows, begins, stays, Sent, RowChange, same, learns, sends, shut, takes, handles, Accepts, HistoryChange, kept, accepts, Change}
+use Rattle.oldmaster.specs.Change.{Row, rowAt, eventsAt, serviceOf, lastOf, mastersId, Follows, begins, stays, Sent, an-update, a-write, RowChange, same, learns, sends, shut, takes, handles, Accepts, HistoryChange, kept, accepts, Change}
 
 -- The master that a mastership names, as a write by it would have it.
 abbrev pub by : Mastership → Write
@@ -77,10 +77,17 @@ rising-push w (x ∷ l) a r = (all-append (λ y. x .term ≤ y .term) l (w ∷ [
 
 -- ---- a row
 
+no-write : {A : Type 0} → update ≡ write → A
+no-write e = let z : _≡_ {A = ℕ} 0 1 = cc in absurd (omega arith)
+
+sent-term : {count i : ℕ} {m : Mastership} {r : Request} → Sent count i m r → r .term ≡ m .term
+sent-term (an-update id low) = refl
+sent-term (a-write some master) = refl
+
 module _ {count : ℕ} {F : Write → Type 0} {i : ℕ} where
   -- The heart: a write with its node's id on the switch has its node's term there. The update that gave the id was sent before the write, so its term
   -- is not above; the id is its term's master's at most, and is the write's term's master's, so its term is not below.
-  pub terms-agree : {x : Row} {r : Request} {q : List Request} → RowLaw count F i x → x .requests ≡ r ∷ q → r .message ≡ write → x .id ≡ r .id → x .term ≡ r .term
+  terms-agree : {x : Row} {r : Request} {q : List Request} → RowLaw count F i x → x .requests ≡ r ∷ q → r .message ≡ write → x .id ≡ r .id → x .term ≡ r .term
   terms-agree {x} {r} h e w k =
       let low : x .term ≤ r .term = (rw e at (h .climbs)) .0 in
       let id : r .id ≡ mastersId count (r .term) = (rw e at (h .requests)) .0 .write-id w in
@@ -88,17 +95,17 @@ module _ {count : ℕ} {F : Write → Type 0} {i : ℕ} where
       let up = ids-rise count (r .term) (x .term) (omega arith) in
       omega arith
 
+  sent-lawful : {m : Mastership} {r : Request} → (0 < m .term → F (by m)) → Sent count i m r → RequestLaw count F (suc i) r
+  sent-lawful f (an-update id low) = record { id = low; write-id = λ e. no-write e; write-named = λ e. no-write e }
+  sent-lawful f (a-write some master) = record { id = omega arith; write-id = λ e. refl; write-named = λ e. rw (← master) (f some) }
+
   row-changed : {events : List Mastership} {x y : Row} → ((m : Mastership) → List·Memᴰ m events → F (by m)) → RowLaw count F i x → RowChange count i events x y → RowLaw count F i y
   row-changed f h same = h
   row-changed {x = x} f h (learns m k up) = record { learned = λ z. f m k; climbs = climbs-to (x .term) (x .requests) (x .learned .term) (m .term) up (h .climbs); requests = h .requests; id = h .id }
   row-changed {x = x} f h (sends r k) = record {
     learned = h .learned;
-    climbs = climbs-push (x .term) (x .requests) r (x .learned .term) (k .term) (h .climbs);
-    requests = all-push (RequestLaw count F (suc i)) r (x .requests) (rw (k .term) (record {
-      id = k .id;
-      write-id = k .write-id;
-      write-named = λ w. rw (← k .write-node w) (h .learned (k .write-term w));
-    })) (h .requests);
+    climbs = climbs-push (x .term) (x .requests) r (x .learned .term) (sent-term k) (h .climbs);
+    requests = all-push (RequestLaw count F (suc i)) r (x .requests) (sent-lawful (h .learned) k) (h .requests);
     id = h .id;
   }
   row-changed {x = x} f h shut = record { learned = h .learned; climbs = omega arith; requests = tt; id = omega arith }
@@ -108,25 +115,32 @@ module _ {count : ℕ} {F : Write → Type 0} {i : ℕ} where
 
 -- ---- the history
 
-accepted-lawful : {F : Write → Type 0} {e : Event} {s t : State} → RowLaw (s .count) F (e .node - 1) (rowAt s (e .node - 1)) → HistoryLaw F (lastOf s) (s .history) → Accepts e s t
-    → HistoryLaw F (lastOf t) (t .history)
-accepted-lawful {F} {e} {s} {t} x h a =
-    let agree : rowAt s (e .node - 1) .term ≡ a .request .term = terms-agree x (a .head) (a .is-write) (a .by-id) in
-    let up = a .by-term in
-    let node : suc (e .node - 1) ≡ e .node = let low = a .node in omega arith in
-    rw (a .recorded, a .raised) (record {
-      named = all-append F (s .history) _ (h .named) (rw node at ((rw (a .head) at (x .requests)) .0 .write-named (a .is-write)), tt);
-      below = all-append (λ w. w .term ≤ rowAt s (e .node - 1) .term) (s .history) _ (lower (rowAt s (e .node - 1) .term) up) (omega arith, tt);
-      rising = rising-push _ (s .history) (lower (a .request .term) (omega arith)) (h .rising);
-    })
-  where
-    lower : (term : ℕ) → lastOf s ≤ term → All (λ w. w .term ≤ term) (s .history)
-    lower term up = all-with (λ w k l. omega arith) (s .history) (h .below) (h .below)
+below-more : {F : Write → Type 0} {last : ℕ} {h : List Write} → HistoryLaw F last h → (high : ℕ) → last ≤ high → All (λ w. w .term ≤ high) h
+below-more {h = h} k high up = all-with (λ w a b. omega arith) h (k .below) (k .below)
 
-history-changed : {F : Write → Type 0} {e : Event} {s t : State} → ((i : ℕ) → RowLaw (s .count) F i (rowAt s i)) → HistoryLaw F (lastOf s) (s .history) → HistoryChange e s t
-    → HistoryLaw F (lastOf t) (t .history)
-history-changed x h (kept e l) = rw (e, l) h
-history-changed {e = e} x h (accepts a) = accepted-lawful (x (e .node - 1)) h a
+module _ {F : Write → Type 0} {e : Event} {s t : State} (rows : (i : ℕ) → RowLaw (s .count) F i (rowAt s i)) where
+  module _ (a : Accepts e s t) where
+    -- What is recorded is what was tested, and its node was named.
+    pub accepted-term : rowAt s (e .node - 1) .term ≡ a .request .term
+    accepted-term = terms-agree (rows (e .node - 1)) (a .head) (a .is-write) (a .by-id)
+
+    pub accepted-named : F (record { node = e .node; term = a .request .term })
+    accepted-named =
+        let low = a .node in
+        let node : suc (e .node - 1) ≡ e .node = omega arith in
+        rw node at ((rw (a .head) at (rows (e .node - 1) .requests)) .0 .write-named (a .is-write))
+
+  history-changed : HistoryLaw F (lastOf s) (s .history) → HistoryChange e s t → HistoryLaw F (lastOf t) (t .history)
+  history-changed h (kept same-history same-last) = rw same-history (record { named = h .named; below = below-more h (lastOf t) (omega arith); rising = h .rising })
+  history-changed h (accepts a) =
+      let agree = accepted-term a in
+      let current = a .by-term in
+      let raised = a .raised in
+      rw (a .recorded) (record {
+        named = all-append F (s .history) _ (h .named) (accepted-named a, tt);
+        below = all-append (λ w. w .term ≤ lastOf t) (s .history) _ (below-more h (lastOf t) (omega arith)) (omega arith, tt);
+        rising = rising-push _ (s .history) (below-more h (a .request .term) (omega arith)) (h .rising);
+      })
 
 -- ---- every change
 

@@ -35,51 +35,51 @@ switchTerm s n = getD (s .core .wire .terms) (n - 1) 0
 
 -- ---- what is said of a write in the history
 
-module _ (count : ℕ) (es : List Event) where
-  -- There was a moment when the service's master was the write's node, and its term the write's term.
-  pub record Named (w : Write) : Type 0 where
-    pub before : List Event
-    pub behind : List Event
-    pub splits : before ++ behind ≡ es
-    pub master : serviceAfter count before .master ≡ w .node
-    pub term : serviceAfter count before .term ≡ w .term
+-- There was a moment when the service's master was the write's node, and its term the write's term.
+pub record Named (count : ℕ) (es : List Event) (w : Write) : Type 0 where
+  pub before : List Event
+  pub behind : List Event
+  pub splits : before ++ behind ≡ es
+  pub master : serviceAfter count before .master ≡ w .node
+  pub term : serviceAfter count before .term ≡ w .term
 
-  -- At no moment was it another: whenever the service has a master in the write's term, that is the write's node.
-  abbrev pub NoOther : Write → Type 0
-  NoOther w = (before behind : List Event) → before ++ behind ≡ es
-      → serviceAfter count before .term ≡ w .term → serviceAfter count before .master ≢ 0 → serviceAfter count before .master ≡ w .node
+-- At no moment was it another: whenever the service has a master in the write's term, that is the write's node.
+abbrev pub NoOther : ℕ → List Event → Write → Type 0
+NoOther count es w = (before behind : List Event) → before ++ behind ≡ es
+    → serviceAfter count before .term ≡ w .term → serviceAfter count before .master ≢ 0 → serviceAfter count before .master ≡ w .node
 
-  -- The step that accepted the write, when the history was `old`: a Handle write of its node. The term that the write carried, which is recorded, and
-  -- the term that the switch held of the node, which is tested, are one.
-  pub record Accepted (old : List Write) (w : Write) : Type 0 where
-    pub before : List Event
-    pub handled : Event
-    pub behind : List Event
-    pub splits : before ++ handled ∷ behind ≡ es
-    pub kind : kindOf (handled .kind) ≡ some handleWrite
-    pub node : handled .node ≡ w .node
-    pub was : historyAfter count before ≡ old
-    pub became : historyAfter count (before ++ (handled ∷ [])) ≡ old ++ (w ∷ [])
-    pub recorded : ownTerm (stateAfter count before) (w .node) ≡ w .term
-    pub tested : switchTerm (stateAfter count before) (w .node) ≡ w .term
+-- The step that accepted the write, when the history was `old`: a Handle write of its node, which the service had named by then. The term that the
+-- write carried, which is recorded, and the term that the switch held of the node, which is tested, are one.
+pub record Accepted (count : ℕ) (es : List Event) (old : List Write) (w : Write) : Type 0 where
+  pub before : List Event
+  pub handled : Event
+  pub behind : List Event
+  pub splits : before ++ handled ∷ behind ≡ es
+  pub kind : kindOf (handled .kind) ≡ some handleWrite
+  pub node : handled .node ≡ w .node
+  pub named : Named count before w
+  pub was : historyAfter count before ≡ old
+  pub became : historyAfter count (before ++ (handled ∷ [])) ≡ old ++ (w ∷ [])
+  pub recorded : ownTerm (stateAfter count before) (w .node) ≡ w .term
+  pub tested : switchTerm (stateAfter count before) (w .node) ≡ w .term
 
 -- ---- the statement
 
--- The terms never decrease.
+-- No term is below one before it.
 abbrev pub Rising : List Write → Type 0
 Rising [] = Unit {0}
 Rising (x ∷ l) = All (λ y. x .term ≤ y .term) l × Rising l
 
 -- Of the writes h, after the steps es from a fresh state.
 pub record KeptOut (count : ℕ) (es : List Event) (h : List Write) : Type 0 where
-  -- The terms never decrease.
+  -- No write has a lower term than one before it.
   pub rising : Rising h
-  -- Two writes of equal term have the same node.
+  -- The writes of one term are all by one node.
   pub one-node : (x y : Write) → List·Memᴰ x h → List·Memᴰ y h → x .term ≡ y .term → x .node ≡ y .node
-  -- It is the one that the service named master for that term, and it named no other.
+  -- The service named that node master for the term, and never another.
   pub named : (w : Write) → List·Memᴰ w h → Named count es w
   pub no-other : (w : Write) → List·Memᴰ w h → NoOther count es w
-  -- The write's own term, as recorded, and the switch's term, as tested, agree.
+  -- The term on record is the write's own, and is the one that the switch tested.
   pub accepted : (old new : List Write) (w : Write) → old ++ w ∷ new ≡ h → Accepted count es old w
 
 -- For 1 to 8 nodes and every list of steps, whatever is refused, closed or shut down in it.

@@ -2,22 +2,23 @@
 use mathlib.Core.Path.{_≡_, refl, sym, ap, ap₂, _∙_}
 use mathlib.Core.Logic.{_≢_, _⊎_, inl, inr}
 use mathlib.Core.List.{List, [], _∷_, _++_, append-nil, append-assoc, List·Memᴰ, List·Memᴰ·head, List·Memᴰ·tail, List·Memᴰ·not-nil}
-use Prim.Native.Nat.{ℕ, zero, suc, _-_, _≤_}
+use Prim.Native.Nat.{ℕ}
 use native.Mathlib.Omega.{arith}
 use lib.ListN.{length, getD, replicate, length-append}
 use lib.Seq.{append-snoc}
-use lib.Dec.{T}
 use Rattle.rules.specs.State.{Mastership, Request, Write, State, blank}
 use Rattle.rules.specs.Queues.{first}
 use Rattle.rules.specs.Rules.{noRequest}
 use Rattle.rules.specs.Step.{Event, step, fresh}
 use Rattle.rules.specs.Run.{run}
 use Rattle.laws.specs.InRange.{All, WriteFits}
+use Rattle.laws.specs.Lists.{all-getD}
 use Rattle.laws.specs.RangeTest.{range-sound}
+use Rattle.laws.specs.KeepsSwitch.{all-replicate}
 use Rattle.laws.specs.Steps.{step-count, run-keeps, fresh-fits}
-use Rattle.oldmaster.specs.KeptOut.{stateAfter, serviceAfter, historyAfter, Named, NoOther, Accepted, KeptOut, OldMastersKeptOut}
-use Rattle.oldmaster.specs.Change.{rowAt, eventsAt, serviceOf, HistoryChange, kept, Accepts, accepts, Change}
-use Rattle.oldmaster.specs.Invariant.{by, Lawful, Also, terms-agree, lawful-step}
+use Rattle.oldmaster.specs.KeptOut.{stateAfter, serviceAfter, historyAfter, Named, Accepted, OldMastersKeptOut}
+use Rattle.oldmaster.specs.Change.{HistoryChange, kept, Accepts, accepts, Change}
+use Rattle.oldmaster.specs.Invariant.{by, Lawful, accepted-term, accepted-named, lawful-step}
 use Rattle.oldmaster.specs.Steps.{step-changes}
 
 -- ---- lists that end in x
@@ -102,9 +103,7 @@ module _ (count : ℕ) where
       nobody x k = let e = nothing-before (k .before) (k .behind) (k .splits) in (sym (rw e at (k .master)), sym (rw e at (k .term)))
 
       same : {A : Type 0} (n : ℕ) (x : A) (i : ℕ) → getD (replicate n x) i x ≡ x
-      same zero x i = refl
-      same (suc n) x zero = refl
-      same (suc n) x (suc i) = same n x i
+      same n x i = all-getD (λ y. y ≡ x) (replicate n x) i x refl (all-replicate (λ y. y ≡ x) n x refl)
 
   lawful : (es : List Event) → Lawful (Named count es) (stateAfter count es)
   lawful = one-by-one (λ es. Lawful (Named count es) (stateAfter count es)) lawful-fresh lawful-more
@@ -119,6 +118,7 @@ module _ (count : ℕ) where
     splits = sym (append-assoc (a .before) (a .handled ∷ a .behind) (e ∷ [])) ∙ ap (λ l. l ++ (e ∷ [])) (a .splits);
     kind = a .kind;
     node = a .node;
+    named = a .named;
     was = a .was;
     became = a .became;
     recorded = a .recorded;
@@ -136,10 +136,11 @@ module _ (count : ℕ) where
     splits = refl;
     kind = a .kind;
     node = refl;
+    named = accepted-named (lawful es .rows) a;
     was = refl;
     became = a .recorded;
     recorded = ap (λ q. first noRequest q .term) (a .head);
-    tested = terms-agree (lawful es .rows (e .node - 1)) (a .head) (a .is-write) (a .by-id);
+    tested = accepted-term (lawful es .rows) a;
   }
 
   abbrev Traced : List Event → Type 0

@@ -1,30 +1,30 @@
 -- Every step is a change of the kind that the argument speaks of. Assumes nothing.
-use mathlib.Core.Path.{_≡_, refl, sym, ap, _∙_}
-use mathlib.Core.Logic.{_≢_, _⊎_, inl, inr, ⊎-map}
-use mathlib.Core.Bool.{Bool, true, false, not, cond, _||_}
+use mathlib.Core.Path.{_≡_, refl, _∙_}
+use mathlib.Core.Logic.{_⊎_, inl, ⊎-map}
+use mathlib.Core.Bool.{Bool, true, false, not, cond}
 use mathlib.Core.Option.{some}
-use mathlib.Core.List.{List, [], _∷_, _++_, append-nil, map, List·Memᴰ, List·Memᴰ·head, List·Memᴰ·tail, List·Memᴰ·append-cases, List·Memᴰ·eq-of-singleton}
+use mathlib.Core.List.{List, [], _∷_, append-nil, map, List·Memᴰ, List·Memᴰ·head, List·Memᴰ·tail, List·Memᴰ·append-cases, List·Memᴰ·eq-of-singleton}
 use Prim.Native.Nat.{ℕ, zero, suc, _+_, _-_, _≤_, _<_}
 use native.Mathlib.Omega.{arith}
 use native.Mathlib.Decide.{ℕ-discrete}
-use lib.ListN.{length, getD, set}
+use lib.ListN.{getD, set, List·getD-map}
 use lib.Seq.{getD-set-same, getD-set-other, set-getD}
-use lib.Dec.{T, leb, ltb, eqb}
-use Rattle.rules.specs.State.{Mastership, Message, update, write, Request, Write, Desk, State, blank}
-use Rattle.rules.specs.Queues.{push, first, rest, empty, has, remove}
-use Rattle.rules.specs.Ids.{electionId, named, placeOf, idFor}
-use Rattle.rules.specs.Election.{masterOf, taken}
-use Rattle.rules.specs.Parts.{Sender, Served, servicePart, learnPart, sendPart, onDevice, tellPart, servePart, powerPart}
-use Rattle.rules.specs.Rules.{posted, unposted, vacant, joined, joinRule, handsOver, left, leaveRule, learnRule, sendUpdateRule, sendWriteRule, isUpdate, isWrite, noRequest, closed, closeRule, asked, updated, handleUpdateRule, accepts, handleWriteRule, cleared, shutdownRule, startupRule, Kind, classOf, rule, join, leave, learns, sendUpdate, receiveUpdate, sendWrite, receiveWrite, connect, close, handleUpdate, handleWrite, shutdown, startup}
+use lib.Dec.{T, eqb}
+use Rattle.rules.specs.State.{Mastership, Message, update, write, Request, Desk, State, blank}
+use Rattle.rules.specs.Queues.{push, first, rest, empty, remove}
+use Rattle.rules.specs.Ids.{electionId, idFor}
+use Rattle.rules.specs.Election.{taken}
+use Rattle.rules.specs.Parts.{Served, servicePart, sendPart, onDevice, tellPart}
+use Rattle.rules.specs.Rules.{posted, unposted, vacant, joined, joinRule, handsOver, left, leaveRule, learnRule, sendUpdateRule, sendWriteRule, isUpdate, isWrite, noRequest, closed, closeRule, asked, updated, handleUpdateRule, accepts, handleWriteRule, cleared, shutdownRule, startupRule, Kind, rule, join, leave, learns, sendUpdate, receiveUpdate, sendWrite, receiveWrite, connect, close, handleUpdate, handleWrite, shutdown, startup}
 use Rattle.rules.specs.Step.{Event, kindOf, step}
 use Rattle.laws.specs.InRange.{Within, InRange}
-use Rattle.laws.specs.Tests.{_&_, as-is, is-yes, is-le, is-lt, is-eq, is-ne, is-within}
+use Rattle.laws.specs.Tests.{_&_, as-is, is-le, is-lt, is-eq, is-within}
 use Rattle.laws.specs.Decide.{Passes}
 use Rattle.laws.specs.RangeTest.{range-sound}
 use Rattle.laws.specs.Answered.{sees, after, Reaches}
 use Rattle.laws.specs.Answers.{step-is}
 use Rattle.oldmaster.specs.Change as Change
-use Rattle.oldmaster.specs.Change.{Row, rowAt, eventsAt, serviceOf, lastOf, mastersId, Follows, begins, stays, Sent, RowChange, same, HistoryChange, kept, Change}
+use Rattle.oldmaster.specs.Change.{Row, rowAt, eventsAt, serviceOf, mastersId, Follows, begins, stays, Sent, RowChange, same, HistoryChange, kept, Change}
 
 -- ---- queues
 
@@ -50,11 +50,6 @@ module _ {A : Type 0} where
   in-posted m x [] i k = inl k
   in-posted m x (q ∷ qs) zero k = ⊎-map (λ h. h) List·Memᴰ·eq-of-singleton (List·Memᴰ·append-cases q k)
   in-posted m x (q ∷ qs) (suc i) k = in-posted m x qs i k
-
-  cleared-at : {B : Type 0} (l : List A) (x : B) (i : ℕ) → getD (map (λ y. x) l) i x ≡ x
-  cleared-at [] x i = refl
-  cleared-at (y ∷ l) x zero = refl
-  cleared-at (y ∷ l) x (suc i) = cleared-at l x i
 
 -- ---- the service: 1, 2
 
@@ -90,9 +85,6 @@ module _ {e : Event} {s : State} where
       go false h = rw h (posts _ (gone (eqb (serviceOf s .master) n)) (λ i x k. inl k))
 
 -- ---- what a node sends
-
-no-write : {A : Type 0} → update ≡ write → A
-no-write e = let z : _≡_ {A = ℕ} 0 1 = cc in absurd (omega arith)
 
 -- The id rule: no id is above its term's master's.
 asked-low : (count n : ℕ) (m : Mastership) → idFor count n m ≤ mastersId count (m .term)
@@ -167,14 +159,14 @@ module _ {s : State} (r : InRange s) {n : ℕ} (node : Within 1 (s .count) n) wh
 
   send-update-change : {e : Event} → Change e s (after sendUpdate n s)
   unfolding sendUpdateRule
-  send-update-change = sends-change _ _ (record { term = refl; id = asked-low (s .count) n (own .learned); write-id = λ z. no-write z; write-term = λ z. no-write z; write-node = λ z. no-write z })
+  send-update-change = sends-change _ _ (Change.an-update _ (asked-low (s .count) n (own .learned)))
 
   send-write-change : {e : Event} → Passes (sendWriteRule n) (sees sendWrite n s) → Change e s (after sendWrite n s)
   unfolding sendWriteRule
   send-write-change p =
       let a = (as-is (sees sendWrite n s .isOpen) & is-lt 0 (own .learned .term) & is-eq (own .learned .master) n & as-is (sees sendWrite n s .says)) .to (p .allowed) in
       let low = node .lower in
-      sends-change _ _ (record { term = refl; id = omega arith; write-id = λ z. refl; write-term = λ z. a .0 .0 .1; write-node = λ z. a .0 .1 ∙ omega arith })
+      sends-change _ _ (Change.a-write (a .0 .0 .1) (a .0 .1 ∙ omega arith))
 
   -- ---- the switch: 9 to 11
 
@@ -192,8 +184,10 @@ module _ {s : State} (r : InRange s) {n : ℕ} (node : Within 1 (s .count) n) wh
 
   handle-update-change : {e : Event} → Passes (handleUpdateRule n) (sees handleUpdate n s) → Change e s (after handleUpdate n s)
   unfolding handleUpdateRule
-  handle-update-change p = let v = sees handleUpdate n s in go (taken n (asked v .id) (v .ids))
-      ((as-is (v .running) & as-is (getD (v .opens) (n - 1) false) & as-is (not (empty (v .requests))) & as-is (isUpdate (asked v .message))) .to (p .allowed) .0 .1)
+  handle-update-change p =
+      let v = sees handleUpdate n s in
+      let a = (as-is (v .running) & as-is (getD (v .opens) (n - 1) false) & as-is (not (empty (v .requests))) & as-is (isUpdate (asked v .message))) .to (p .allowed) in
+      go (taken n (asked v .id) (v .ids)) (a .0 .1)
     where
       go : {e : Event} (b : Bool) → T (not (empty (own .requests)))
           → Change e s (onDevice (tellPart n) .put (cond b (closed n (sees handleUpdate n s)) (updated n (sees handleUpdate n s))) s)
@@ -207,10 +201,10 @@ unfolding isWrite
 about-write update t = absurd t
 about-write write t = refl
 
--- What is used of the switch's test: not who its master is.
+-- What is used of the switch's test. Who its master is goes unread.
 judged : (n : ℕ) (v : Served) → T (accepts n v) → (getD (v .ids) (n - 1) 0 ≡ first noRequest (v .requests) .id) × (v .last ≤ v .term)
 unfolding accepts
-judged n v t = let a = (is-eq (getD (v .ids) (n - 1) 0) (first noRequest (v .requests) .id) & as-is (eqb (masterOf (v .ids)) n) & is-le (v .last) (v .term)) .to t in (a .0 .0, a .1)
+judged n v t = let a = (is-eq (getD (v .ids) (n - 1) 0) (first noRequest (v .requests) .id) & as-is _ & is-le (v .last) (v .term)) .to t in (a .0 .0, a .1)
 
 -- A passing Handle write of the event's node, where the switch accepts or not.
 handle-write-history : {e : Event} {s : State} → kindOf (e .kind) ≡ some handleWrite → 1 ≤ e .node → let v = sees handleWrite (e .node) s in
@@ -235,10 +229,10 @@ handle-write-change {e} {s} r k node p =
 shutdown-change : {e : Event} {s : State} → Change e s (after shutdown (e .node) s)
 unfolding shutdownRule cleared
 shutdown-change {s = s} = let w = s .core .wire in
-    undesked refl (λ i. rw (cleared-at (w .requests) (nil Request) i, cleared-at {B = ℕ} (w .ids) 0 i, cleared-at {B = ℕ} (w .terms) 0 i) Change.shut) (kept refl refl)
+    undesked refl (λ i. rw (none {A = List Request} [] (w .requests) i, none 0 (w .ids) i, none 0 (w .terms) i) Change.shut) (kept refl refl)
   where
-    nil : (A : Type 0) → List A
-    nil A = []
+    none : {A : Type 0} (x : A) (l : List A) (i : ℕ) → getD (map (λ y. x) l) i x ≡ x
+    none x l i = List·getD-map (λ y. x) l i x
 
 -- ---- every rule, and every step
 
