@@ -35,13 +35,6 @@ BytesKeptOut = (list out : List ℕ) → KeptOut (nodeCount list) (records list)
 
 -- ---- text
 
--- The text ends in a line for each of the writes, and they are as claimed.
-pub record Printed (list text : List ℕ) : Type 0 where
-  pub answers : List ℕ
-  pub writes : List Write
-  pub lines : text ≡ runText list answers writes
-  pub kept-out : KeptOut (nodeCount list) (records list) writes
-
--- Of any list of bytes that is not refused.
+-- Of any list of bytes that is not refused, and any writes that the text printed for it shows.
 abbrev pub PrintedKeptOut : Type 0
-PrintedKeptOut = (list : List ℕ) → refusal list ≡ 0 → Printed list (transcript list)
+PrintedKeptOut = (list answers : List ℕ) (writes : List Write) → refusal list ≡ 0 → transcript list ≡ runText list answers writes → KeptOut (nodeCount list) (records list) writes

@@ -1,5 +1,5 @@
 -- What is read from the bytes of a run, and what is printed, is the history of the run. Assumes nothing.
-use mathlib.Core.Path.{_≡_, refl, ap, ap₂, _∙_}
+use mathlib.Core.Path.{_≡_, refl, sym, ap, ap₂, _∙_}
 use mathlib.Core.Bool.{Bool, true, false, cond}
 use mathlib.Core.List.{List, [], _∷_, _++_, append-assoc, List·Memᴰ·not-nil}
 use Prim.Native.Nat.{ℕ, suc, _+_, _*_, _-_, _/_, _%_, _<_}
@@ -20,6 +20,7 @@ use Rattle.transcript.specs.Transcript.{transcript}
 use Rattle.transcript.specs.Reading.{all-answered}
 use Rattle.oldmaster.specs.KeptOut.{KeptOut}
 use Rattle.oldmaster.specs.OldMaster.{kept-out}
+use Rattle.histories.specs.Numbers.{same-writes}
 use Rattle.histories.specs.Held.{writeAt, writesReturned, historyPart, writesHeld, BytesKeptOut, PrintedKeptOut}
 
 -- ---- the entries
@@ -106,9 +107,6 @@ bytes-kept-out list out = go (eqb (runRefusal list out) 0) refl
 
 pub printed-kept-out : PrintedKeptOut
 unfolding transcript
-printed-kept-out list accepted = record {
-  answers = wholeRun list .answer;
-  writes = wholeRun list .state .history;
-  lines = simp (eq-eqb (refusal list) 0 accepted);
-  kept-out = history-kept-out list accepted;
-}
+printed-kept-out list answers writes accepted printed =
+    let same = same-writes list (wholeRun list .answer) answers (wholeRun list .state .history) writes (sym (simp (eq-eqb (refusal list) 0 accepted)) ∙ printed) in
+    rw (← same) (history-kept-out list accepted)

@@ -3,3 +3,4 @@ pub mod Change
 pub mod Invariant
 pub mod Steps
 pub mod OldMaster
+pub mod Mistakes
