@@ -89,23 +89,22 @@ flat-lines [] = refl
 flat-lines (w ∷ ws) = lines-first (λ i. getD (w ∷ ws) i noWrite .node ∷ getD (w ∷ ws) i noWrite .term ∷ []) (length ws) ∙ ap (λ (l : List ℕ). w .node ∷ w .term ∷ l) (flat-lines ws)
 
 -- Four numbers for each record, and eight in the line between.
+recordShown : List ℕ → List ℕ → ℕ → List ℕ
+recordShown list answers i = (i + 1) ∷ recordAt list i .kind ∷ recordAt list i .node ∷ getD answers i 0 ∷ []
+
 before : List ℕ → List ℕ → ℕ → List ℕ
-before list answers writes =
-    lines (λ i. (i + 1) ∷ recordAt list i .kind ∷ recordAt list i .node ∷ getD answers i 0 ∷ []) (recordCount list) ++ (0 ∷ 0 ∷ 0 ∷ 0 ∷ 0 ∷ 0 ∷ 0 ∷ writes ∷ [])
+before list answers writes = lines (recordShown list answers) (recordCount list) ++ (0 ∷ 0 ∷ 0 ∷ 0 ∷ 0 ∷ 0 ∷ 0 ∷ writes ∷ [])
 
 before-length : (list answers : List ℕ) (writes : ℕ) → length (before list answers writes) ≡ 4 * recordCount list + 8
-unfolding before lines
-before-length list answers writes = length-append (lines line (recordCount list)) _ ∙ ap (λ (n : ℕ). n + 8) (fours (recordCount list))
+unfolding before recordShown lines
+before-length list answers writes = length-append (lines (recordShown list answers) (recordCount list)) _ ∙ ap (λ (n : ℕ). n + 8) (fours (recordCount list))
   where
-    line : ℕ → List ℕ
-    line i = (i + 1) ∷ recordAt list i .kind ∷ recordAt list i .node ∷ getD answers i 0 ∷ []
-
-    fours : (n : ℕ) → length (lines line n) ≡ 4 * n
+    fours : (n : ℕ) → length (lines (recordShown list answers) n) ≡ 4 * n
     fours zero = refl
-    fours (suc n) = let k = fours n in length-append (lines line n) (line n) ∙ omega arith
+    fours (suc n) = let k = fours n in length-append (lines (recordShown list answers) n) (recordShown list answers n) ∙ omega arith
 
 text-shows : (list answers : List ℕ) (ws : List Write) → Shows (runText list answers ws) (before list answers (length ws) ++ flat ws)
-unfolding runText before
+unfolding runText before recordShown
 text-shows list answers ws = rw (← flat-lines ws) (
     shows-lines (λ i. shows-record (i + 1) (recordAt list i .kind) (recordAt list i .node) (getD answers i 0)) (recordCount list)
     then shows-writes (length ws)

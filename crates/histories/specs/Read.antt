@@ -2,10 +2,10 @@
 use mathlib.Core.Path.{_≡_, refl, sym, ap, ap₂, _∙_}
 use mathlib.Core.Bool.{Bool, true, false, cond}
 use mathlib.Core.List.{List, [], _∷_, _++_, append-assoc, List·Memᴰ·not-nil}
-use Prim.Native.Nat.{ℕ, suc, _+_, _*_, _-_, _/_, _%_, _<_}
+use Prim.Native.Nat.{ℕ, suc, _+_, _*_, _-_, _<_}
 use native.Mathlib.Omega.{arith}
-use lib.ListN.{length, drop, length-append}
-use lib.Seq.{drop-at}
+use lib.ListN.{length, drop}
+use lib.Seq.{drop-at, getD-append-add}
 use lib.Dec.{eqb, leb}
 use borrow.Author.Tests.{eq-eqb}
 use Rattle.rules.specs.Codes.{bufferShort}
@@ -19,19 +19,16 @@ use Rattle.runner.specs.Ran.{historyRoom, noWrites, runRefusal, wholeRun, compl
 use Rattle.transcript.specs.Transcript.{transcript}
 use Rattle.transcript.specs.Reading.{all-answered}
 use Rattle.oldmaster.specs.KeptOut.{KeptOut}
+use Rattle.oldmaster.specs.Growing.{nothing-before}
 use Rattle.oldmaster.specs.OldMaster.{kept-out}
 use Rattle.histories.specs.Numbers.{same-writes}
 use Rattle.histories.specs.Held.{writeAt, writesReturned, historyPart, writesHeld, BytesKeptOut, PrintedKeptOut}
 
 -- ---- the entries
 
--- A byte that four others stand before.
-further : (a b c d : ℕ) (l : List ℕ) (i j : ℕ) → i ≡ 4 + j → byteAt (a ∷ b ∷ c ∷ d ∷ l) i ≡ byteAt l j
-further a b c d l i j e = let same : i ≡ suc (suc (suc (suc j))) = omega arith in rw same
-
 next-write : (w : Write) (l : List ℕ) (i : ℕ) → writeAt (entryBytes w ++ l) (suc i) ≡ writeAt l i
 next-write w l i =
-    let at = further (w .node) 0 (w .term % 256) (w .term / 256) l in
+    let at : (j k : ℕ) → j ≡ 4 + k → byteAt (entryBytes w ++ l) j ≡ byteAt l k = λ j k e. rw e (getD-append-add (entryBytes w) l k 0) in
     rw (at (4 * suc i) (4 * i) (omega arith), at (4 * suc i + 2) (4 * i + 2) (omega arith), at (4 * suc i + 3) (4 * i + 3) (omega arith))
 
 first-write : (w : Write) (l : List ℕ) → writeAt (entryBytes w ++ l) 0 ≡ w
@@ -71,7 +68,7 @@ none-kept-out count es = record {
   one-node = λ x y p. absurd (List·Memᴰ·not-nil p);
   named = λ w p. absurd (List·Memᴰ·not-nil p);
   no-other = λ w p. absurd (List·Memᴰ·not-nil p);
-  accepted = λ old new w e. let z : length (old ++ w ∷ new) ≡ 0 = ap length e in let n = length-append old (w ∷ new) in absurd (omega arith);
+  accepted = λ old new w e. let n = nothing-before old (w ∷ new) e in let z : _≡_ {A = ℕ} 0 1 = cc in absurd (omega arith);
 }
 
 -- ---- a run that is not refused

@@ -1,4 +1,4 @@
--- What holds of all that is on its way from the service to the history, and that every change keeps it. Assumes nothing.
+-- The law of all that is on its way from the service to the history, and that every change keeps it. Assumes nothing.
 use mathlib.Core.Path.{_≡_, refl, sym, ap, _∙_}
 use mathlib.Core.Logic.{_≢_, _⊎_, inl, inr}
 use mathlib.Core.List.{List, [], _∷_, _++_, List·Memᴰ}
@@ -30,7 +30,7 @@ module _ (count : ℕ) (F : Write → Type 0) where
     pub write-id : r .message ≡ write → r .id ≡ mastersId count (r .term)
     pub write-named : r .message ≡ write → F (record { node = n; term = r .term })
 
-  -- The terms climb from the switch's, through the requests, to the one that the node has learned; and the id is none above the switch's term.
+  -- The terms climb from the switch's, through the requests, to the one that the node has learned. No id is above that of its term's master.
   pub record RowLaw (i : ℕ) (x : Row) : Type 0 where
     pub learned : 0 < x .learned .term → F (by (x .learned))
     pub climbs : Climbs (x .term) (x .requests) (x .learned .term)
@@ -50,7 +50,7 @@ pub record Lawful (F : Write → Type 0) (s : State) : Type 0 where
   pub rows : (i : ℕ) → RowLaw (s .count) F i (rowAt s i)
   pub history : HistoryLaw F (lastOf s) (s .history)
 
--- ---- the id rule: all that the argument takes from it
+-- ---- the id rule: a later term's master has a higher id
 
 ids-rise : (count t u : ℕ) → mastersId count t ≤ mastersId count u → t ≤ u
 unfolding electionId
@@ -174,13 +174,10 @@ lawful-step {F} {G} {e} {s} {t} n says g h c = record {
   history = history-changed (λ i. row-still g (h .rows i)) (history-still g (h .history)) (c .history);
 }
   where
-    old : (m : Mastership) → F (by m) → (x : Write) → F x → x .node ≢ 0 → m .master ≢ 0 → x .term ≡ m .term → x .node ≡ m .master
-    old m k x p a b e = h .once x (by m) p k a b e
-
     -- An older name, for the term of what the service now says.
     with-new : Follows (serviceOf s) (serviceOf t) → (x : Write) → F x → x .node ≢ 0 → serviceOf t .master ≢ 0 → x .term ≡ serviceOf t .term → x .node ≡ serviceOf t .master
     with-new (begins b) x p a z e = let u = h .bound x p in absurd (omega arith)
-    with-new (stays b k) x p a z e = let d = k z in old (serviceOf s) says x p a (λ o. z (d ∙ o)) (e ∙ b) ∙ sym d
+    with-new (stays b k) x p a z e = let d = k z in h .once x (by (serviceOf s)) p says a (λ o. z (d ∙ o)) (e ∙ b) ∙ sym d
 
     go : (x y : Write) → F x ⊎ (x ≡ by (serviceOf t)) → F y ⊎ (y ≡ by (serviceOf t)) → x .node ≢ 0 → y .node ≢ 0 → x .term ≡ y .term → x .node ≡ y .node
     go x y (inl p) (inl q) a b e = h .once x y p q a b e

@@ -1,59 +1,26 @@
 -- Why an old master can't get in: the law holds from fresh on, and says what is claimed of the history. Assumes nothing.
 use mathlib.Core.Path.{_≡_, refl, sym, ap, ap₂, _∙_}
 use mathlib.Core.Logic.{_≢_, _⊎_, inl, inr}
-use mathlib.Core.List.{List, [], _∷_, _++_, append-nil, append-assoc, List·Memᴰ, List·Memᴰ·head, List·Memᴰ·tail, List·Memᴰ·not-nil}
+use mathlib.Core.List.{List, [], _∷_, _++_, append-nil, append-assoc, List·Memᴰ, List·Memᴰ·not-nil}
 use Prim.Native.Nat.{ℕ}
 use native.Mathlib.Omega.{arith}
-use lib.ListN.{length, getD, replicate, length-append}
+use lib.ListN.{getD, replicate}
 use lib.Seq.{append-snoc}
 use Rattle.rules.specs.State.{Mastership, Request, Write, State, blank}
 use Rattle.rules.specs.Queues.{first}
 use Rattle.rules.specs.Rules.{noRequest}
 use Rattle.rules.specs.Step.{Event, step, fresh}
 use Rattle.rules.specs.Run.{run}
-use Rattle.laws.specs.InRange.{All, WriteFits}
+use Rattle.laws.specs.InRange.{WriteFits}
 use Rattle.laws.specs.Lists.{all-getD}
 use Rattle.laws.specs.RangeTest.{range-sound}
 use Rattle.laws.specs.KeepsSwitch.{all-replicate}
 use Rattle.laws.specs.Steps.{step-count, run-keeps, fresh-fits}
 use Rattle.oldmaster.specs.KeptOut.{stateAfter, serviceAfter, historyAfter, Named, Accepted, OldMastersKeptOut}
+use Rattle.oldmaster.specs.Growing.{nothing-before, FirstPart, all, part, first-part, same-end, one-by-one, all-member}
 use Rattle.oldmaster.specs.Change.{HistoryChange, kept, Accepts, accepts, Change}
 use Rattle.oldmaster.specs.Invariant.{by, Lawful, accepted-term, accepted-named, lawful-step}
 use Rattle.oldmaster.specs.Steps.{step-changes}
-
--- ---- lists that end in x
-
-module _ {A : Type 0} where
-  nothing-before : (before behind : List A) → before ++ behind ≡ [] → before ≡ []
-  nothing-before [] behind e = refl
-  nothing-before (y ∷ before) behind e = let z : _≡_ {A = ℕ} 0 1 = cc in absurd (omega arith)
-
-  -- The second of two parts is not all there is, and x is at its end.
-  record EndsIn (before behind l : List A) (x : A) : Type 0 where
-    rest : List A
-    splits : before ++ rest ≡ l
-    ends : behind ≡ rest ++ (x ∷ [])
-
-  last-part : (before behind l : List A) (x : A) → before ++ behind ≡ l ++ (x ∷ []) → (before ≡ l ++ (x ∷ [])) ⊎ EndsIn before behind l x
-  last-part [] behind l x e = inr (record { rest = l; splits = refl; ends = e })
-  last-part (y ∷ before) behind [] x e = let n = nothing-before before behind (cc) in inl (cc)
-  last-part (y ∷ before) behind (z ∷ l) x e = go (last-part before behind l x (cc))
-    where
-      go : (before ≡ l ++ (x ∷ [])) ⊎ EndsIn before behind l x → (y ∷ before ≡ z ∷ l ++ (x ∷ [])) ⊎ EndsIn (y ∷ before) behind (z ∷ l) x
-      go (inl p) = inl (cc)
-      go (inr k) = let s = k .splits in inr (record { rest = k .rest; splits = cc; ends = k .ends })
-
-  all-member : (P : A → Type 0) (x : A) (l : List A) → All P l → List·Memᴰ x l → P x
-  all-member P x (y ∷ l) h (List·Memᴰ·head e) = rw e (h .0)
-  all-member P x (y ∷ l) h (List·Memᴰ·tail m) = all-member P x l (h .1) m
-
-  -- What holds of no step, and of one more where it held, holds of every list.
-  one-by-one : (P : List A → Type 0) → P [] → ((l : List A) (x : A) → P l → P (l ++ (x ∷ []))) → (l : List A) → P l
-  one-by-one P p f l = go [] l p
-    where
-      go : (before behind : List A) → P before → P (before ++ behind)
-      go before [] p = rw append-nil p
-      go before (x ∷ behind) p = rw append-snoc at (go (before ++ (x ∷ [])) behind (f before x p))
 
 -- ---- moments
 
@@ -76,11 +43,11 @@ module _ (count : ℕ) where
     }
 
     named-earlier : (w : Write) → Named count (es ++ (e ∷ [])) w → Named count es w ⊎ (w ≡ by (serviceAfter count (es ++ (e ∷ []))))
-    named-earlier w k = go (last-part (k .before) (k .behind) es e (k .splits))
+    named-earlier w k = go (first-part (k .before) (k .behind) es e (k .splits))
       where
-        go : (k .before ≡ es ++ (e ∷ [])) ⊎ EndsIn (k .before) (k .behind) es e → Named count es w ⊎ (w ≡ by (serviceAfter count (es ++ (e ∷ []))))
-        go (inl p) = let write : ℕ → ℕ → Write = λ n t. record { node = n; term = t } in inr (rw (← p) (ap₂ write (sym (k .master)) (sym (k .term))))
-        go (inr p) = inl (record { before = k .before; behind = p .rest; splits = p .splits; master = k .master; term = k .term })
+        go : FirstPart (k .before) es e → Named count es w ⊎ (w ≡ by (serviceAfter count (es ++ (e ∷ []))))
+        go (all p) = let write : ℕ → ℕ → Write = λ n t. record { node = n; term = t } in inr (rw (← p) (ap₂ write (sym (k .master)) (sym (k .term))))
+        go (part rest p) = inl (record { before = k .before; behind = rest; splits = p; master = k .master; term = k .term })
 
     changed : Change e (stateAfter count es) (stateAfter count (es ++ (e ∷ [])))
     changed = rw (run-more (fresh count) es e) (step-changes e (stateAfter count es))
@@ -149,27 +116,19 @@ module _ (count : ℕ) where
   traced-more : (es : List Event) (e : Event) → Traced es → Traced (es ++ (e ∷ []))
   traced-more es e f old new w p = go (changed es e .history)
     where
-      -- The history, where one write has joined it: the write is that one, or was there.
-      split : (a : Accepts e (stateAfter count es) (stateAfter count (es ++ (e ∷ [])))) (rest : List Write) → old ++ rest ≡ historyAfter count es
-          → w ∷ new ≡ rest ++ (record { node = e .node; term = a .request .term } ∷ []) → Accepted count (es ++ (e ∷ [])) old w
-      split a [] q z =
-          let was : old ≡ historyAfter count es = sym (append-nil old) ∙ q in
-          let is : w ≡ record { node = e .node; term = a .request .term } = cc in
-          rw (was, is) (accepted-now es e a)
-      split a (x ∷ rest) q z = accepted-later es e (f old rest w (cc))
+      -- One write has joined the history: it is w, or w was there.
+      joined : (a : Accepts e (stateAfter count es) (stateAfter count (es ++ (e ∷ []))))
+          → FirstPart (old ++ (w ∷ [])) (historyAfter count es) (record { node = e .node; term = a .request .term }) → Accepted count (es ++ (e ∷ [])) old w
+      joined a (all q) = let s = same-end old (historyAfter count es) w _ q in rw (s .0, s .1) (accepted-now es e a)
+      joined a (part rest q) = accepted-later es e (f old rest w (sym (append-snoc old w rest) ∙ q))
 
       go : HistoryChange e (stateAfter count es) (stateAfter count (es ++ (e ∷ []))) → Accepted count (es ++ (e ∷ [])) old w
       go (kept h l) = accepted-later es e (f old new w (p ∙ h))
-      go (accepts a) = part (last-part old (w ∷ new) (historyAfter count es) _ (p ∙ a .recorded))
-        where
-          part : (old ≡ historyAfter count es ++ (record { node = e .node; term = a .request .term } ∷ []))
-              ⊎ EndsIn old (w ∷ new) (historyAfter count es) (record { node = e .node; term = a .request .term }) → Accepted count (es ++ (e ∷ [])) old w
-          part (inl q) = let z : length (old ++ w ∷ new) ≡ length old = ap length (p ∙ a .recorded ∙ sym q) in let n = length-append old (w ∷ new) in absurd (omega arith)
-          part (inr k) = split a (k .rest) (k .splits) (k .ends)
+      go (accepts a) = joined a (first-part (old ++ (w ∷ [])) new (historyAfter count es) _ (append-snoc old w new ∙ p ∙ a .recorded))
 
   traced-fresh : Traced []
   unfolding fresh
-  traced-fresh old new w p = let n = length-append old (w ∷ new) in let z : length (old ++ w ∷ new) ≡ 0 = ap length p in absurd (omega arith)
+  traced-fresh old new w p = let n = nothing-before old (w ∷ new) p in let z : _≡_ {A = ℕ} 0 1 = cc in absurd (omega arith)
 
   traced : (es : List Event) → Traced es
   traced = one-by-one Traced traced-fresh traced-more
