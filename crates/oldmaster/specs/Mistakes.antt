@@ -4,60 +4,52 @@ use mathlib.Core.Bool.{true, cond}
 use mathlib.Core.List.{List, [], _∷_, _++_}
 use Prim.Native.Nat.{ℕ, _≤_}
 use native.Mathlib.Omega.{arith}
-use lib.Dec.{eqb}
+use lib.Dec.{T, eqb}
 use Rattle.rules.specs.State.{Write, State}
+use Rattle.rules.specs.Range.{inRange}
 use Rattle.rules.specs.Parts.{withCore, withWire}
 use Rattle.rules.specs.Step.{Event, ofState, fresh}
 use Rattle.laws.specs.Computed.{computed}
 use Rattle.situations.specs.Names.{Join, Leave, Learn, SendUpdate, ReceiveUpdate, SendWrite, Connect, Close, HandleUpdate, HandleWrite, Shutdown, Startup, by}
 use Rattle.oldmaster.specs.KeptOut.{historyAfter, Rising}
 
--- ---- the mistakes: what a step leaves, of a state in range or not
+-- ---- the mistakes
 
-abbrev Leaves : Type 0
-Leaves = Event → State → State
+-- The state that a step leaves. It is asked of states out of range too.
+abbrev Stepping : Type 0
+Stepping = Event → State → State
 
 -- By the rules.
-abbrev properly : Leaves
+abbrev properly : Stepping
 properly e s = ofState true e s .state
 
-abbrev withLast : ℕ → State → State
-withLast last s = let w = s .core .wire in withCore (withWire (record {
-  opens = w .opens;
-  sent = w .sent;
-  requests = w .requests;
-  responses = w .responses;
-  ids = w .ids;
-  terms = w .terms;
-  last = last;
-}) (s .core)) s
-
-abbrev withIds : List ℕ → State → State
-withIds ids s = let w = s .core .wire in withCore (withWire (record {
+-- The state with these ids and this last accepted term.
+abbrev holding : List ℕ → ℕ → State → State
+holding ids last s = let w = s .core .wire in withCore (withWire (record {
   opens = w .opens;
   sent = w .sent;
   requests = w .requests;
   responses = w .responses;
   ids = ids;
   terms = w .terms;
-  last = w .last;
+  last = last;
 }) (s .core)) s
 
 -- A write is judged by its id alone: there is no last accepted term to test.
-abbrev byIdAlone : Leaves
-byIdAlone e s = properly e (withLast 0 s)
+abbrev byIdAlone : Stepping
+byIdAlone e s = properly e (holding (s .core .wire .ids) 0 s)
 
 -- An accepted write does not raise the last accepted term.
-abbrev notRaised : Leaves
-notRaised e s = withLast (s .core .wire .last) (properly e s)
+abbrev notRaised : Stepping
+notRaised e s = let t = properly e s in holding (t .core .wire .ids) (s .core .wire .last) t
 
 -- A shutdown forgets it.
-abbrev forgotten : Leaves
-forgotten e s = let t = properly e s in cond (eqb (e .kind) 12) (withLast 0 t) t
+abbrev forgotten : Stepping
+forgotten e s = let t = properly e s in cond (eqb (e .kind) 12) (holding (t .core .wire .ids) 0 t) t
 
 -- A closed stream's id stays.
-abbrev idStays : Leaves
-idStays e s = let t = properly e s in cond (eqb (e .kind) 9) (withIds (s .core .wire .ids) t) t
+abbrev idStays : Stepping
+idStays e s = let t = properly e s in cond (eqb (e .kind) 9) (holding (s .core .wire .ids) (t .core .wire .last) t) t
 
 -- ---- the steps, of two nodes
 
@@ -85,12 +77,12 @@ afterBoth = replaced ++ (Close 2 ∷ Connect 2 ∷ []) ++ writes 2 ++ restarted 
 
 -- ---- what comes of them
 
-abbrev leaves : Leaves → State → List Event → State
-leaves f s [] = s
-leaves f s (e ∷ es) = leaves f (f e s) es
+abbrev walked : Stepping → State → List Event → State
+walked f s [] = s
+walked f s (e ∷ es) = walked f (f e s) es
 
-abbrev historyBy : Leaves → List Event → List Write
-historyBy f es = leaves f (fresh 2) es .history
+abbrev historyBy : Stepping → List Event → List Write
+historyBy f es = walked f (fresh 2) es .history
 
 -- Node 1's write of term 1 behind node 2's of term 2.
 abbrev backwards : List Write
@@ -123,3 +115,8 @@ mistaken = record {
 pub proper : Proper
 unfolding computed
 proper = record { closed = refl; restarted = refl; both = refl }
+
+-- A state that is merely in range may have that history.
+pub in-range-only : T (inRange (record { count = 2; running = true; history = backwards; core = fresh 2 .core }))
+unfolding computed
+in-range-only = tt
