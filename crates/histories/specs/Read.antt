@@ -73,19 +73,15 @@ none-kept-out count es = record {
 
 -- ---- a run that is not refused
 
-module _ (list : List ℕ) (accepted : refusal list ≡ 0) where
-  history-kept-out : KeptOut (nodeCount list) (records list) (wholeRun list .state .history)
-  history-kept-out = let n = good list accepted .nodes in kept-out (nodeCount list) (records list) (n .lower) (n .upper)
-
-  held : (out : List ℕ) → writesHeld list (completed (wholeRun list) out) ≡ wholeRun list .state .history
-  held out =
-      let t = wholeRun list in
-      let r = completed t out in
-      let b = historyBytes (t .state .history) in
-      let rest = drop (length (t .answer ++ b)) out in
-      let count : writesReturned r ≡ length (t .state .history) = omega arith in
-      let part : historyPart list r ≡ b ++ rest = ap (drop (recordCount list)) (append-assoc (t .answer) b rest) ∙ drop-at (t .answer) (b ++ rest) (recordCount list) (all-answered list (good list accepted)) in
-      ap₂ (λ (n : ℕ) (l : List ℕ). table n (writeAt l)) count part ∙ writes-read (t .state .history) rest
+held : (list out : List ℕ) → refusal list ≡ 0 → writesHeld list (completed (wholeRun list) out) ≡ wholeRun list .state .history
+held list out accepted =
+    let t = wholeRun list in
+    let r = completed t out in
+    let b = historyBytes (t .state .history) in
+    let rest = drop (length (t .answer ++ b)) out in
+    let count : writesReturned r ≡ length (t .state .history) = omega arith in
+    let part : historyPart list r ≡ b ++ rest = ap (drop (recordCount list)) (append-assoc (t .answer) b rest) ∙ drop-at (t .answer) (b ++ rest) (recordCount list) (all-answered list (good list accepted)) in
+    ap₂ (λ (n : ℕ) (l : List ℕ). table n (writeAt l)) count part ∙ writes-read (t .state .history) rest
 
 -- ---- the statements
 
@@ -99,11 +95,11 @@ bytes-kept-out list out = go (eqb (runRefusal list out) 0) refl
 
     go : (b : Bool) → eqb (runRefusal list out) 0 ≡ b
         → KeptOut (nodeCount list) (records list) (writesHeld list (cond b (completed (wholeRun list) out) (record { returned = runRefusal list out; out = out })))
-    go true i = let accepted = list-good (eqb (refusal list) 0) refl (is-eq (runRefusal list out) 0 .to (rw i tt)) in rw (held list accepted out) (history-kept-out list accepted)
+    go true i = let accepted = list-good (eqb (refusal list) 0) refl (is-eq (runRefusal list out) 0 .to (rw i tt)) in rw (held list out accepted) (kept-out (nodeCount list) (records list))
     go false i = let low = run-refusal-low list out in let none : runRefusal list out - noWrites ≡ 0 = omega arith in rw none (none-kept-out (nodeCount list) (records list))
 
 pub printed-kept-out : PrintedKeptOut
 unfolding transcript
 printed-kept-out list answers writes accepted printed =
     let same = same-writes list (wholeRun list .answer) answers (wholeRun list .state .history) writes (sym (simp (eq-eqb (refusal list) 0 accepted)) ∙ printed) in
-    rw (← same) (history-kept-out list accepted)
+    rw (← same) (kept-out (nodeCount list) (records list))

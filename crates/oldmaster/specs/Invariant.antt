@@ -38,6 +38,7 @@ module _ (count : ℕ) (F : Write → Type 0) where
     pub id : x .id ≤ mastersId count (x .term)
 
 pub record HistoryLaw (F : Write → Type 0) (last : ℕ) (h : List Write) : Type 0 where
+  pub node : All (λ w. 1 ≤ w .node) h
   pub named : All F h
   pub below : All (λ w. w .term ≤ last) h
   pub rising : Rising h
@@ -131,12 +132,13 @@ module _ {F : Write → Type 0} {e : Event} {s t : State} (rows : (i : ℕ) → 
         rw node at ((rw (a .head) at (rows (e .node - 1) .requests)) .0 .write-named (a .is-write))
 
   history-changed : HistoryLaw F (lastOf s) (s .history) → HistoryChange e s t → HistoryLaw F (lastOf t) (t .history)
-  history-changed h (kept same-history same-last) = rw same-history (record { named = h .named; below = below-more h (lastOf t) (omega arith); rising = h .rising })
+  history-changed h (kept same-history same-last) = rw same-history (record { node = h .node; named = h .named; below = below-more h (lastOf t) (omega arith); rising = h .rising })
   history-changed h (accepts a) =
       let agree = accepted-term a in
       let current = a .by-term in
       let raised = a .raised in
       rw (a .recorded) (record {
+        node = all-append (λ w. 1 ≤ w .node) (s .history) _ (h .node) (a .node, tt);
         named = all-append F (s .history) _ (h .named) (accepted-named a, tt);
         below = all-append (λ w. w .term ≤ lastOf t) (s .history) _ (below-more h (lastOf t) (omega arith)) (omega arith, tt);
         rising = rising-push _ (s .history) (below-more h (a .request .term) (omega arith)) (h .rising);
@@ -163,7 +165,7 @@ module _ {F G : Write → Type 0} {m : Mastership} (g : Also F G m) where
   }
 
   history-still : {last : ℕ} {h : List Write} → HistoryLaw F last h → HistoryLaw G last h
-  history-still {h = h} k = record { named = all-with (λ w a b. g .before w a) h (k .named) (k .named); below = k .below; rising = k .rising }
+  history-still {h = h} k = record { node = k .node; named = all-with (λ w a b. g .before w a) h (k .named) (k .named); below = k .below; rising = k .rising }
 
 pub lawful-step : {F G : Write → Type 0} {e : Event} {s t : State} → t .count ≡ s .count → F (by (serviceOf s)) → Also F G (serviceOf t) → Lawful F s → Change e s t → Lawful G t
 lawful-step {F} {G} {e} {s} {t} n says g h c = record {

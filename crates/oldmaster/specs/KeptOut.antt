@@ -5,7 +5,6 @@ use mathlib.Core.Option.{some}
 use mathlib.Core.List.{List, [], _∷_, _++_, List·Memᴰ}
 use Prim.Native.Nat.{ℕ, _-_, _≤_}
 use lib.ListN.{getD}
-use Rattle.rules.specs.Limits.{mostNodes}
 use Rattle.rules.specs.State.{Mastership, Write, State}
 use Rattle.rules.specs.Queues.{first}
 use Rattle.rules.specs.Rules.{noRequest, handleWrite}
@@ -82,6 +81,6 @@ pub record KeptOut (count : ℕ) (es : List Event) (h : List Write) : Type 0 whe
   -- The term on record is the write's own, and is the one that the switch tested.
   pub accepted : (old new : List Write) (w : Write) → old ++ w ∷ new ≡ h → Accepted count es old w
 
--- For 1 to 8 nodes and every list of steps, whatever is refused, closed or shut down in it.
+-- For every list of steps, whatever is refused, closed or shut down in it. (Where the nodes are not 1 to 8, no step is done.)
 abbrev pub OldMastersKeptOut : Type 0
-OldMastersKeptOut = (count : ℕ) (es : List Event) → 1 ≤ count → count ≤ mostNodes → KeptOut count es (historyAfter count es)
+OldMastersKeptOut = (count : ℕ) (es : List Event) → KeptOut count es (historyAfter count es)

@@ -2,7 +2,7 @@
 use mathlib.Core.Path.{_≡_, refl, sym, ap, ap₂, _∙_}
 use mathlib.Core.Logic.{_≢_, _⊎_, inl, inr}
 use mathlib.Core.List.{List, [], _∷_, _++_, append-nil, append-assoc, List·Memᴰ, List·Memᴰ·not-nil}
-use Prim.Native.Nat.{ℕ}
+use Prim.Native.Nat.{ℕ, _≤_}
 use native.Mathlib.Omega.{arith}
 use lib.ListN.{getD, replicate}
 use lib.Seq.{append-snoc}
@@ -11,11 +11,9 @@ use Rattle.rules.specs.Queues.{first}
 use Rattle.rules.specs.Rules.{noRequest}
 use Rattle.rules.specs.Step.{Event, step, fresh}
 use Rattle.rules.specs.Run.{run}
-use Rattle.laws.specs.InRange.{WriteFits}
 use Rattle.laws.specs.Lists.{all-getD}
-use Rattle.laws.specs.RangeTest.{range-sound}
 use Rattle.laws.specs.KeepsSwitch.{all-replicate}
-use Rattle.laws.specs.Steps.{step-count, run-keeps, fresh-fits}
+use Rattle.laws.specs.Steps.{step-count}
 use Rattle.oldmaster.specs.KeptOut.{stateAfter, serviceAfter, historyAfter, Named, Accepted, OldMastersKeptOut}
 use Rattle.oldmaster.specs.Growing.{nothing-before, FirstPart, all, part, first-part, same-end, one-by-one, all-member}
 use Rattle.oldmaster.specs.Change.{HistoryChange, kept, Accepts, accepts, Change}
@@ -63,7 +61,7 @@ module _ (count : ℕ) where
     bound = λ x p. let z = nobody x p .1 in omega arith;
     events = λ i m k. absurd (List·Memᴰ·not-nil (rw (same {A = List Mastership} count [] i) at k));
     rows = λ i. rw (same count blank i, same {A = ℕ} count 0 i, same {A = List Request} count [] i) (record { learned = λ z. absurd (omega arith); climbs = omega arith; requests = tt; id = omega arith });
-    history = record { named = tt; below = tt; rising = tt };
+    history = record { node = tt; named = tt; below = tt; rising = tt };
   }
     where
       nobody : (x : Write) → Named count [] x → (x .node ≡ 0) × (x .term ≡ 0)
@@ -136,23 +134,19 @@ module _ (count : ℕ) where
 -- ---- the statement
 
 pub kept-out : OldMastersKeptOut
-kept-out count es low high = record {
-  rising = h .history .rising;
-  one-node = λ x y p q e. h .once x y (named-in x p) (named-in y q) (some-node x p) (some-node y q) e;
+kept-out count es = record {
+  rising = law .history .rising;
+  one-node = λ x y p q e. law .once x y (named-in x p) (named-in y q) (some-node x p) (some-node y q) e;
   named = named-in;
-  no-other = λ w p before behind q e z. h .once _ w (record { before = before; behind = behind; splits = q; master = refl; term = refl }) (named-in w p) z (some-node w p) e;
+  no-other = λ w p before behind q e z. law .once _ w (record { before = before; behind = behind; splits = q; master = refl; term = refl }) (named-in w p) z (some-node w p) e;
   accepted = traced count es;
 }
   where
-    h : Lawful (Named count es) (stateAfter count es)
-    h = lawful count es
+    law : Lawful (Named count es) (stateAfter count es)
+    law = lawful count es
 
     named-in : (w : Write) → List·Memᴰ w (historyAfter count es) → Named count es w
-    named-in w p = all-member (Named count es) w (historyAfter count es) (lawful count es .history .named) p
+    named-in w p = all-member (Named count es) w (historyAfter count es) (law .history .named) p
 
     some-node : (w : Write) → List·Memᴰ w (historyAfter count es) → w .node ≢ 0
-    some-node w p z =
-        let r = range-sound (stateAfter count es) (run-keeps es (fresh count) (fresh-fits count low high)) in
-        let k = all-member (WriteFits (stateAfter count es .count)) w (historyAfter count es) (r .history) p in
-        let n = k .node .lower in
-        omega arith
+    some-node w p z = let low = all-member (λ w. 1 ≤ w .node) w (historyAfter count es) (law .history .node) p in omega arith

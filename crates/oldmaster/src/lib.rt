@@ -1,1 +1,1 @@
-// No code: why an old master can't get in is proved in specs/.
+// Why an old master can't get in. Read specs/, KeptOut first.
