@@ -31,7 +31,7 @@ use Rattle.moves.specs.Acts.{plain}
 use Rattle.rules.specs.Rules.{learnRule}
 use Rattle.service.specs.Asks.{hears}
 use Rattle.service.specs.Posting.{all-heard}
-use Rattle.steps.specs.Asks.{At}
+use Rattle.turns.specs.At.{At}
 use Rattle.turns.specs.declared.Row.{Row}
 use Rattle.turns.specs.Turns.{rowAnswer, rowAfter, deskAnswer, serviceAfter, posting, atRow, atDesk, wireAnswer, wireAfter, runsAfter}
 use Rattle.turns.specs.Asks.{RowKind, DeskKind, RowAsks, RowGoes, DeskGoes, WireAsks, WireGoes}
@@ -147,10 +147,10 @@ module _ {list : List ℕ} {t : Trailer} {out₀ : List ℕ} {i n : ℕ} {out : 
         (learn-leaves b (e .node) (at-row y) history (subst (λ (j : ℕ). answerAt j (length history) ≡ stepDone) f (row-done history long)) x g))
 
     module _ (h : e .kind ≢ 3) (r : Row) (f : r ≡ rowAfter (askOf (bodyIn table) (e .kind) (e .node)) (nodeOf (bodyIn table) (e .node)) (streamOf (bodyIn table) (e .node)) (table .claims)) where
-      row-left : (history : List S.Write) → length history ≡ n → Leaves (e .node) history (ofKind (kindOf (e .kind)) (e .node) (stateOf b history)) (rowMoved b (e .node) (at-row y) r)
+      row-left : (history : List S.Write) → length history ≡ n → Leaves (e .node) history (ofKind (kindOf (e .kind)) (e .node) (stateOf b history)) (rowMoved b (e .node) r)
       unfolding answerAt
       row-left history long =
-          subst (λ (x : Row). Leaves (e .node) history (ofKind (kindOf (e .kind)) (e .node) (stateOf b history)) (rowMoved b (e .node) (at-row y) x)) (sym f)
+          subst (λ (x : Row). Leaves (e .node) history (ofKind (kindOf (e .kind)) (e .node) (stateOf b history)) (rowMoved b (e .node) x)) (sym f)
           (row-leaves b (e .node) (at-row y) history (e .kind) (row-of y) h (row-done history long))
 
       pub row-room : r .entry .accepted ≡ true → n < historyLength
@@ -161,7 +161,7 @@ module _ {list : List ℕ} {t : Trailer} {out₀ : List ℕ} {i n : ℕ} {out : 
 
       pub row-way : {out′ : List ℕ} → out′ ≡ sets (set out i code) (t .count + 4 * n) (historyBytes (ifAccepted (r .entry .accepted) (record { node = r .entry .node; term = r .entry .term .0 })))
           → {n′ : ℕ} → n′ ≡ n + length (ifAccepted (r .entry .accepted) (record { node = r .entry .node; term = r .entry .term .0 }))
-          → Running list out₀ (i + 1) out′ (rowBody (bodyIn table) (e .node) (at-row y) r) n′
+          → Running list out₀ (i + 1) out′ (rowBody (bodyIn table) (e .node) r) n′
       row-way p q = goes-on out₀ (turn .runs) held (turn .is) row-left (turn .lt)
           (p ∙ ap (λ (j : ℕ). sets (set out i j) (t .count + 4 * n) (historyBytes (written (r .entry .node)))) z ∙ ap (λ (j : ℕ). sets (set out i stepDone) (t .count + 4 * n) (historyBytes (written j))) own)
           (q ∙ ap (λ (j : ℕ). n + length (written j)) own)

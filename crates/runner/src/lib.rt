@@ -23,9 +23,6 @@ const HISTORY_ROOM: usize = 4096;
 // What is returned for a run without writes.
 const NO_WRITES: u32 = 256;
 
-// The kind that concerns a node alone.
-const LEARN: u8 = 3;
-
 // The fresh state, without its history.
 fn fresh_table(nodes: u8) -> Table
     requires { ⌜ (1 ≤ nodes) × (nodes ≤ 8) ⌝ }
@@ -112,7 +109,7 @@ fn run_records(list: &[u8], trailer: Trailer, out: &mut [u8]) -> u16
         if turns::at_row(ask) {
             let at = (ask.number - 1) as usize;
             let node = table.nodes[at];
-            if ask.kind == LEARN {
+            if ask.kind == turns::LEARN {
                 table.nodes[at] = nodes::learn(node);
                 continue;
             }

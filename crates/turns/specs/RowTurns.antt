@@ -32,9 +32,9 @@ use Rattle.switch.specs.Asks.{IsNode, AtStream}
 use Rattle.switch.specs.Handled.{storeHandled}
 use Rattle.switch.specs.declared.Handled.{Handled}
 use Rattle.switch.proofs.Callers.{write-can, write-effect, acceptedOf, accepted-back}
-use Rattle.steps.specs.Asks.{At, row-in}
-use Rattle.steps.specs.Nodes.{node-ordered, stream-ordered, learn-yes, send-yes, receive-update-yes, receive-write-yes, sends, waits}
-use Rattle.steps.specs.Switch.{at-stream, link-yes, serve-yes}
+use Rattle.turns.specs.At.{At, row-in}
+use Rattle.turns.specs.Nodes.{node-ordered, stream-ordered, learn-yes, send-yes, receive-update-yes, receive-write-yes, sends, waits}
+use Rattle.turns.specs.Switch.{at-stream, link-yes, serve-yes}
 use Rattle.turns.specs.declared.Ask.{Ask}
 use Rattle.turns.specs.declared.Row.{Row}
 use Rattle.turns.specs.Turns.{rowAnswer, quiet, rowAfter}
@@ -42,6 +42,22 @@ use Rattle.turns.specs.Asks.{RowKind, RowAsks, RowGoes, learns, sendUpda
 use Rattle.turns.specs.Kinds.{inside}
 use Rattle.turns.specs.Answers.{learn-answer, send-update-answer, receive-update-answer, send-write-answer, receive-write-answer}
 use Rattle.turns.specs.Called.{askOf, called-answer, called-leaves}
+
+-- The body with a row anew.
+abbrev pub rowBody : Body → ℕ → Row → Body
+rowBody b n r = record {
+  count = b .count;
+  running = b .running;
+  core = record {
+    service = b .core .service;
+    nodes = set (b .core .nodes) (n - 1) (record { events = nodeOf b n .events; learned = nodeOf b n .learned; says = r .says });
+    streams = set (b .core .streams) (n - 1) (r .stream);
+    claims = r .claims;
+  };
+}
+
+abbrev pub rowMoved : Body → ℕ → Row → Moved
+rowMoved b n r = record { code = stepDone; body = rowBody b n r; accepted = r .entry .accepted; term = r .entry .term }
 
 is-true : (b : Bool) → cond b stepDone notAllowed ≡ stepDone → b ≡ true
 is-true true e = refl
@@ -88,26 +104,10 @@ module _ (b : Body) (n : ℕ) (a : At b n) where
       at : (j : ℕ) → k ≡ j → answerAt writes j ≡ stepDone
       at j e = subst (λ (i : ℕ). answerAt writes i ≡ stepDone) e z
 
-  -- The body with a row anew.
-  abbrev pub rowBody : Row → Body
-  rowBody r = record {
-    count = b .count;
-    running = b .running;
-    core = record {
-      service = b .core .service;
-      nodes = set (b .core .nodes) (n - 1) (record { events = nodeOf b n .events; learned = nodeOf b n .learned; says = r .says });
-      streams = set (b .core .streams) (n - 1) (r .stream);
-      claims = r .claims;
-    };
-  }
-
-  abbrev pub rowMoved : Row → Moved
-  rowMoved r = record { code = stepDone; body = rowBody r; accepted = r .entry .accepted; term = r .entry .term }
-
   same-nodes : set (b .core .nodes) (n - 1) (nodeOf b n) ≡ b .core .nodes
   same-nodes = set-getD (b .core .nodes) (n - 1) pastNode
 
-  quiet-moved : (k : ℕ) (x : Stream) → rowMoved (quiet (askOf b k n) (nodeOf b n) (b .core .claims) x) ≡ plain stepDone (withStream n x b)
+  quiet-moved : (k : ℕ) (x : Stream) → rowMoved b n (quiet (askOf b k n) (nodeOf b n) (b .core .claims) x) ≡ plain stepDone (withStream n x b)
   quiet-moved k x = ap (λ (l : List Node). plain stepDone (withDesk (b .core .service) l (withStream n x b))) same-nodes
 
   module _ (history : List S.Write) where
@@ -115,7 +115,7 @@ module _ (b : Body) (n : ℕ) (a : At b n) where
         → Leaves n history (ofKind (kindOf 3) n (stateOf b history)) (plain stepDone (withNode n x b))
     learn-leaves z x e = called-leaves b n history 3 R.learns refl is-node (learn-yes b n a history (is-true _ (learn-answer (nodeOf b n) ∙ z)) x e _ refl)
 
-    write-leaves : answerAt (length history) 11 ≡ stepDone → Leaves n history (act R.handleWrite n (stateOf b history)) (rowMoved (rowAfter (askOf b 11 n) (nodeOf b n) (streamOf b n) (b .core .claims)))
+    write-leaves : answerAt (length history) 11 ≡ stepDone → Leaves n history (act R.handleWrite n (stateOf b history)) (rowMoved b n (rowAfter (askOf b 11 n) (nodeOf b n) (streamOf b n) (b .core .claims)))
     unfolding storeHandled
     write-leaves z =
         let rule = R.handleWriteRule n in
@@ -123,12 +123,12 @@ module _ (b : Body) (n : ℕ) (a : At b n) where
         let done : storeHandled (rule .effect (servedOf (b .count) n true (streamOf b n) (b .core .claims) 0)) (streamOf b n) ≡ storeHandled (rule .effect v) (streamOf b n) =
         ap (λ (w : Serving). storeHandled w (streamOf b n)) (write-effect (b .count) n (b .running) (streamOf b n) (b .core .claims) (length history)) in
         serve-yes b n a history rule (passes rule v z) _ refl
-        (ap (λ (l : List Node). withDesk (b .core .service) l (rowBody (rowAfter (askOf b 11 n) (nodeOf b n) (streamOf b n) (b .core .claims)))) same-nodes
+        (ap (λ (l : List Node). withDesk (b .core .service) l (rowBody b n (rowAfter (askOf b 11 n) (nodeOf b n) (streamOf b n) (b .core .claims)))) same-nodes
         ∙ ap (λ (h : Handled). withLast (h .last) (withStream n (h .stream) b)) done)
         (sym (accepted-back n v (streamOf b n)) ∙ ap (acceptedOf n) (sym done))
 
     pub row-leaves : (k : ℕ) → RowKind k → k ≢ 3 → rowAnswer (askOf b k n) (length history) (nodeOf b n) (streamOf b n) (b .core .claims) ≡ stepDone
-        → Leaves n history (ofKind (kindOf k) n (stateOf b history)) (rowMoved (rowAfter (askOf b k n) (nodeOf b n) (streamOf b n) (b .core .claims)))
+        → Leaves n history (ofKind (kindOf k) n (stateOf b history)) (rowMoved b n (rowAfter (askOf b k n) (nodeOf b n) (streamOf b n) (b .core .claims)))
     unfolding R.connectRule
     row-leaves _ learns h z = absurd (h refl)
     row-leaves _ sendUpdate h z = called-leaves b n history 4 R.sendUpdate refl is-node (send-yes b n a history (R.sendUpdateRule n) z _ refl _ (quiet-moved 4 _))

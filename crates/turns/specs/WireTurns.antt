@@ -32,8 +32,8 @@ use Rattle.moves.specs.Stored.{in-order-wire, few}
 use Rattle.moves.specs.Acts.{plain}
 use Rattle.switch.specs.Asks.{AtWire}
 use Rattle.switch.proofs.Callers.{close-tells, close-effect, update-tells, update-effect}
-use Rattle.steps.specs.Asks.{At}
-use Rattle.steps.specs.Switch.{at-wire, tell-yes, shutdown-yes, startup-yes}
+use Rattle.turns.specs.At.{At}
+use Rattle.turns.specs.Switch.{at-wire, tell-yes, shutdown-yes, startup-yes}
 use Rattle.turns.specs.declared.Ask.{Ask}
 use Rattle.turns.specs.Turns.{rowKind, deskKind, atRow, atDesk, barrierOf, barrier, switchAnswer, wireAnswer, wireAfter, runsAfter}
 use Rattle.turns.specs.Asks.{WireKind, WireAsks, WireGoes, close, handleUpdate, shutdown, startup}

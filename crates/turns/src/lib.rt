@@ -16,6 +16,9 @@ use state::Node;
 use state::Stream;
 use state::Wire;
 
+// The kind that concerns a node alone.
+pub const LEARN: u8 = 3;
+
 // A step that is asked for, with the node count and whether the switch runs.
 pub struct Ask {
     pub count: u8,

@@ -14,8 +14,8 @@ use Rattle.moves.specs.Sets.{withWire}
 use Rattle.moves.specs.Stored.{few, in-order-nodes}
 use Rattle.turns.specs.Turns.{atRow, atDesk}
 use Rattle.turns.specs.Called.{askOf}
-use Rattle.steps.specs.Asks.{At}
-use Rattle.steps.specs.Nodes.{node-ordered}
+use Rattle.turns.specs.At.{At}
+use Rattle.turns.specs.Nodes.{node-ordered}
 use Rattle.lists.specs.EventList.{recordCount}
 use Rattle.runner.specs.Tables.{bodyIn, pending, settled, heard}
 use Rattle.runner.specs.Running.{Running, starts, keeps-length, ready, ends}

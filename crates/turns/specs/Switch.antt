@@ -28,17 +28,12 @@ use Rattle.moves.specs.Sets.{withWire, withStream, withLast}
 use Rattle.moves.specs.Gets.{streamOf, linked-read, served-read}
 use Rattle.moves.specs.Stored.{in-order-wire, open-stored-at, telling-stored, serving-stored-at, power-stored}
 use Rattle.moves.specs.Acts.{plain, barred-at, refused, done-at, passes}
-use Rattle.steps.specs.Asks.{At, row-in, leaves-as}
+use Rattle.turns.specs.At.{At, row-in, leaves-as}
 
 module _ (b : Body) (n : ℕ) (a : At b n) (history : List S.Write) where
   -- ---- 8 Connect
 
   module _ (r : Rule Linked Bool) where
-    pub link-no : (code : ℕ) → code ≡ answerOf (decide r (linkedOf (b .running) (streamOf b n))) → code ≢ stepDone → (m : Moved) → m ≡ plain code b
-        → Leaves n history (via (onDevice (linkPart n)) (decide r) (stateOf b history)) m
-    link-no code c h m e = leaves-as n history _ (plain code b) m e
-        (refused (onDevice (linkPart n)) r n b (a .ready) history (linkedOf (b .running) (streamOf b n)) (linked-read b n (row-in b n a) history) code c h)
-
     pub link-yes : answerOf (decide r (linkedOf (b .running) (streamOf b n))) ≡ stepDone → (x : Stream) → x ≡ storeOpen (r .effect (linkedOf (b .running) (streamOf b n))) (streamOf b n)
         → (m : Moved) → m ≡ plain stepDone (withStream n x b) → Leaves n history (via (onDevice (linkPart n)) (decide r) (stateOf b history)) m
     link-yes h x f m e = let v = linkedOf (b .running) (streamOf b n) in
@@ -51,11 +46,6 @@ module _ (b : Body) (n : ℕ) (a : At b n) (history : List S.Write) where
   module _ (r : Rule Told Telling) where
     abbrev v : Told
     v = toldOf (b .count) n (b .running) (b .core .streams) (b .core .claims)
-
-    pub tell-no : (code : ℕ) → code ≡ answerOf (decide r (toldOf (b .count) n (b .running) (b .core .streams) (b .core .claims))) → code ≢ stepDone → (m : Moved) → m ≡ plain code b
-        → Leaves n history (via (onDevice (tellPart n)) (decide r) (stateOf b history)) m
-    unfolding holdCore
-    tell-no code c h m e = leaves-as n history _ (plain code b) m e (refused (onDevice (tellPart n)) r n b (a .ready) history v refl code c h)
 
     pub tell-yes : answerOf (decide r (toldOf (b .count) n (b .running) (b .core .streams) (b .core .claims))) ≡ stepDone
         → (x : Wire) → x ≡ storeTelling n (r .effect (toldOf (b .count) n (b .running) (b .core .streams) (b .core .claims))) (b .count) (b .core .streams) (b .core .claims)
@@ -71,10 +61,6 @@ module _ (b : Body) (n : ℕ) (a : At b n) (history : List S.Write) where
   module _ (r : Rule Served Serving) where
     abbrev u : Served
     u = servedOf (b .count) n (b .running) (streamOf b n) (b .core .claims) (length history)
-
-    pub serve-no : (code : ℕ) → code ≡ answerOf (decide r (servedOf (b .count) n (b .running) (streamOf b n) (b .core .claims) (length history))) → code ≢ stepDone → (m : Moved) → m ≡ plain code b
-        → Leaves n history (via (onDevice (servePart n)) (decide r) (stateOf b history)) m
-    serve-no code c h m e = leaves-as n history _ (plain code b) m e (refused (onDevice (servePart n)) r n b (a .ready) history u (served-read b n (row-in b n a) history) code c h)
 
     pub serve-yes : Passes r (servedOf (b .count) n (b .running) (streamOf b n) (b .core .claims) (length history)) → (m : Moved) → m .code ≡ stepDone
         → m .body ≡ withLast (record { 0 = r .effect (servedOf (b .count) n (b .running) (streamOf b n) (b .core .claims) (length history)) .last })
@@ -92,21 +78,11 @@ module _ (b : Body) (n : ℕ) (a : At b n) where
   pub at-stream : AtStream (b .count) n (streamOf b n)
   at-stream = record { within = record { few = a .few; from = a .low; upto = a .high }; ordered = in-order-wire b (a .ready) .rows (n - 1) (row-in b n a) }
 
-  -- Close does not ask whether the switch runs.
-  pub close-answer : answerOf (decide (closeRule n) (toldOf (b .count) n true (b .core .streams) (b .core .claims)))
-      ≡ answerOf (decide (closeRule n) (toldOf (b .count) n (b .running) (b .core .streams) (b .core .claims)))
-  unfolding decide closeRule closeRoom closed idsLeft opensLeft responsesLeft
-  close-answer = refl
-
 -- ---- 12, 13 Shutdown, Startup: they carry node 0
 
 module _ (b : Body) (ready : Ready b) (history : List S.Write) where
   abbrev w : Power
   w = powerOf (b .count) (b .running) (b .core .streams) (b .core .claims)
-
-  power-no : (r : Rule Power Power) → r .allowed w ≡ false → (m : Moved) → m ≡ plain notAllowed b → Leaves 0 history (via (onDevice powerPart) (decide r) (stateOf b history)) m
-  unfolding holdCore
-  power-no r h m e = leaves-as 0 history _ (plain notAllowed b) m e (barred-at (onDevice powerPart) r 0 b ready history w refl h)
 
   power-yes : (r : Rule Power Power) → Passes r w → (x : Wire) → x ≡ packWire (r .effect w .wire)
       → (m : Moved) → m ≡ plain stepDone (withWire (r .effect w .running) (x .streams) (x .claims) b) → Leaves 0 history (via (onDevice powerPart) (decide r) (stateOf b history)) m
@@ -116,18 +92,10 @@ module _ (b : Body) (ready : Ready b) (history : List S.Write) where
       (done-at (onDevice powerPart) r 0 b ready history w refl p (plain stepDone (put x)) refl
       (ap put f ∙ power-stored b ready history (r .effect w)) (sym (append-nil history)))
 
-  pub shutdown-no : b .running ≡ false → (m : Moved) → m ≡ plain notAllowed b → Leaves 0 history (act shutdown 0 (stateOf b history)) m
-  unfolding shutdownRule
-  shutdown-no h m e = power-no shutdownRule h m e
-
   pub shutdown-yes : b .running ≡ true → (x : Wire) → x ≡ packWire (cleared (holdWire (b .count) (b .core .streams) (b .core .claims)))
       → (m : Moved) → m ≡ plain stepDone (withWire false (x .streams) (x .claims) b) → Leaves 0 history (act shutdown 0 (stateOf b history)) m
   unfolding shutdownRule
   shutdown-yes h x f m e = power-yes shutdownRule (record { allowed = rw h tt; term = tt; history = tt; queues = tt }) x f m e
-
-  pub startup-no : b .running ≡ true → (m : Moved) → m ≡ plain notAllowed b → Leaves 0 history (act startup 0 (stateOf b history)) m
-  unfolding startupRule
-  startup-no h m e = power-no startupRule (ap not h) m e
 
   pub startup-yes : b .running ≡ false → (m : Moved) → m ≡ plain stepDone (withWire true (b .core .streams) (b .core .claims) b) → Leaves 0 history (act startup 0 (stateOf b history)) m
   unfolding startupRule

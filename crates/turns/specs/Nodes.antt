@@ -37,7 +37,7 @@ use Rattle.moves.specs.Sets.{withDesk, withNode, withStream}
 use Rattle.moves.specs.Gets.{nodeOf, streamOf, inbox-read, sender-read, receiver-read}
 use Rattle.moves.specs.Stored.{fits-core, in-order-nodes, in-order-wire, inbox-stored-at, sent-stored-at, received-stored-at}
 use Rattle.moves.specs.Acts.{plain, barred-at, refused, done-at, passes}
-use Rattle.steps.specs.Asks.{At, row-in, leaves-as}
+use Rattle.turns.specs.At.{At, row-in, leaves-as}
 
 module _ (b : Body) (n : ℕ) (a : At b n) where
   pub node-ordered : OrderedNode (nodeOf b n)
@@ -48,9 +48,6 @@ module _ (b : Body) (n : ℕ) (a : At b n) where
 
   module _ (history : List S.Write) where
     -- ---- 3 Learn
-
-    pub learn-no : learnRule .allowed (inboxOf (nodeOf b n)) ≡ false → (m : Moved) → m ≡ plain notAllowed b → Leaves n history (act learns n (stateOf b history)) m
-    learn-no h m e = leaves-as n history _ (plain notAllowed b) m e (barred-at (learnPart n) learnRule n b (a .ready) history (inboxOf (nodeOf b n)) (inbox-read b n (row-in b n a) history) h)
 
     pub learn-yes : learnRule .allowed (inboxOf (nodeOf b n)) ≡ true → (x : Node) → x ≡ storeInbox (learnRule .effect (inboxOf (nodeOf b n))) (nodeOf b n)
         → (m : Moved) → m ≡ plain stepDone (withNode n x b) → Leaves n history (act learns n (stateOf b history)) m
@@ -67,10 +64,6 @@ module _ (b : Body) (n : ℕ) (a : At b n) where
       abbrev v : Sender
       v = senderOf (b .count) (nodeOf b n) (streamOf b n)
 
-      pub send-no : (code : ℕ) → code ≡ answerOf (decide r (senderOf (b .count) (nodeOf b n) (streamOf b n))) → code ≢ stepDone → (m : Moved) → m ≡ plain code b
-          → Leaves n history (via (sendPart n) (decide r) (stateOf b history)) m
-      send-no code c h m e = leaves-as n history _ (plain code b) m e (refused (sendPart n) r n b (a .ready) history v (sender-read b n (row-in b n a) history) code c h)
-
       pub send-yes : answerOf (decide r (senderOf (b .count) (nodeOf b n) (streamOf b n))) ≡ stepDone
           → (x : Stream) → x ≡ storeSent (r .effect (senderOf (b .count) (nodeOf b n) (streamOf b n))) (streamOf b n)
           → (m : Moved) → m ≡ plain stepDone (withStream n x b) → Leaves n history (via (sendPart n) (decide r) (stateOf b history)) m
@@ -85,10 +78,6 @@ module _ (b : Body) (n : ℕ) (a : At b n) where
       abbrev u : Receiver
       u = receiverOf (b .count) (nodeOf b n) (streamOf b n)
 
-      pub receive-no : r .allowed (receiverOf (b .count) (nodeOf b n) (streamOf b n)) ≡ false → (m : Moved) → m ≡ plain notAllowed b
-          → Leaves n history (via (receivePart n) (decide r) (stateOf b history)) m
-      receive-no h m e = leaves-as n history _ (plain notAllowed b) m e (barred-at (receivePart n) r n b (a .ready) history u (receiver-read b n (row-in b n a) history) h)
-
       pub receive-yes : Passes r (receiverOf (b .count) (nodeOf b n) (streamOf b n)) → (x : Node) → x ≡ storeSays (r .effect (receiverOf (b .count) (nodeOf b n) (streamOf b n))) (nodeOf b n)
           → (y : Stream) → y ≡ storeReceived (r .effect (receiverOf (b .count) (nodeOf b n) (streamOf b n))) (streamOf b n) → (m : Moved)
           → m ≡ plain stepDone (withNode n x (withStream n y b)) → Leaves n history (via (receivePart n) (decide r) (stateOf b history)) m
@@ -97,18 +86,10 @@ module _ (b : Body) (n : ℕ) (a : At b n) where
           (done-at (receivePart n) r n b (a .ready) history u (receiver-read b n (row-in b n a) history) p (plain stepDone (withNode n x (withStream n y b))) refl
           (ap₂ (λ (q : Node) (t : Stream). withNode n q (withStream n t b)) f g ∙ received-stored-at b (a .ready) history n (row-in b n a) (r .effect u)) (sym (append-nil history)))
 
-    pub receive-update-no : updateWaits (streamOf b n) ≡ false → (m : Moved) → m ≡ plain notAllowed b → Leaves n history (act receiveUpdate n (stateOf b history)) m
-    unfolding receiveUpdateRule
-    receive-update-no h m e = receive-no (receiveUpdateRule n) h m e
-
     pub receive-update-yes : updateWaits (streamOf b n) ≡ true → (x : Node) → x ≡ storeSays (receiveUpdateRule n .effect (receiverOf (b .count) (nodeOf b n) (streamOf b n))) (nodeOf b n)
         → (y : Stream) → y ≡ received (streamOf b n) → (m : Moved) → m ≡ plain stepDone (withNode n x (withStream n y b)) → Leaves n history (act receiveUpdate n (stateOf b history)) m
     unfolding receiveUpdateRule
     receive-update-yes h x f y g m e = receive-yes (receiveUpdateRule n) (record { allowed = rw h tt; term = tt; history = tt; queues = tt }) x f y g m e
-
-    pub receive-write-no : writeWaits (streamOf b n) ≡ false → (m : Moved) → m ≡ plain notAllowed b → Leaves n history (act receiveWrite n (stateOf b history)) m
-    unfolding receiveWriteRule
-    receive-write-no h m e = receive-no receiveWriteRule h m e
 
     pub receive-write-yes : writeWaits (streamOf b n) ≡ true → (y : Stream) → y ≡ received (streamOf b n) → (m : Moved) → m ≡ plain stepDone (withStream n y b)
         → Leaves n history (act receiveWrite n (stateOf b history)) m
@@ -126,20 +107,6 @@ sends true false e = refl
 sends false full e = absurd (omega arith)
 
 module _ (b : Body) (n : ℕ) (a : At b n) where
-  -- for a rule that asks for room in the requests and for nothing else
-  pub send-answer : (r : Rule Sender Sent) → let v = senderOf (b .count) (nodeOf b n) (streamOf b n) in r .termLeft v ≡ true → r .historyLeft v ≡ true → r .queuesLeft v ≡ room (v .requests)
-      → (allowed : Bool) → allowed ≡ r .allowed v → (code : ℕ) → code ≡ sendAnswer allowed (leb queueLength (streamOf b n .requests .len)) → code ≡ answerOf (decide r v)
-  unfolding decide
-  send-answer r t h q allowed k code e =
-      let full = leb queueLength (streamOf b n .requests .len) in
-      let f : room (holdRequests (streamOf b n .requests)) ≡ not full = room-held noRequest packRequest holdRequest (requestsQueue (streamOf b n .requests)) (stream-ordered b n a .requests) in
-      rw (← k, t, h, q, f) (e ∙ go allowed full)
-    where
-      go : (allowed full : Bool) → sendAnswer allowed full ≡ answerOf (need allowed notAllowed (need true termsSpent (need true historyFull (need (not full) queueFull (done stepDone (r .effect (senderOf (b .count) (nodeOf b n) (streamOf b n))))))))
-      go true true = refl
-      go true false = refl
-      go false full = refl
-
   -- ---- a response that waits has an id in range
 
   small : (m : S.Message) (t : S.Status) (id : ℕ) → AnswerFits m t id → id ≤ topId

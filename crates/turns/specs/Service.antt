@@ -36,7 +36,7 @@ use Rattle.moves.specs.Bodies.{stateOf, Leaves}
 use Rattle.moves.specs.Sets.{withDesk}
 use Rattle.moves.specs.Stored.{fits-core, in-order-nodes, in-order-service, desk-stored}
 use Rattle.moves.specs.Acts.{plain, refused, done-at, passes}
-use Rattle.steps.specs.Asks.{At, leaves-as}
+use Rattle.turns.specs.At.{At, leaves-as}
 
 -- what the service and its nodes hold
 abbrev pub deskAt : Body → S.Desk
@@ -54,13 +54,6 @@ module _ (b : Body) (n : ℕ) (a : At b n) where
   desk-fits : DeskFits (b .count) (deskAt b)
   unfolding holdCore
   desk-fits = fits-core b (a .ready) .desk
-
-  -- ---- what is left where the code is not 0, for either rule
-
-  pub service-no : (r : Rule S.Desk S.Desk) (history : List S.Write) (code : ℕ) → code ≡ answerOf (decide r (deskAt b)) → code ≢ stepDone → (m : Moved) → m ≡ plain code b
-      → Leaves n history (via servicePart (decide r) (stateOf b history)) m
-  unfolding holdCore
-  service-no r history code c h m e = leaves-as n history _ (plain code b) m e (refused servicePart r n b (a .ready) history (deskAt b) refl code c h)
 
   -- where every test holds: the service's mastership, and all event queues
   service-yes : (r : Rule S.Desk S.Desk) (history : List S.Write) → Passes r (deskAt b)
