@@ -1,22 +1,20 @@
 -- `run_records` meets its contract. Assumes nothing.
-use mathlib.Core.Path.{_≡_, refl, sym, ap, subst, _∙_}
-use mathlib.Core.Logic.{_⊎_, ⊎-elim}
+use mathlib.Core.Path.{_≡_, refl, sym, ap, _∙_}
+use mathlib.Core.Logic.{⊎-elim}
 use mathlib.Core.Bool.{Bool, true, false}
-use mathlib.Core.List.{List}
 use Prim.Native.Nat.{ℕ, _+_, _*_, _-_, _≤_, _<_}
 use lib.ListN.{length, length-set}
 use native.Mathlib.Omega.{arith}
 use Rattle.rules.specs.Step.{Event, fresh}
-use Rattle.state.specs.Order.{pastNode}
 use Rattle.state.specs.declared.Body.{Body}
 use Rattle.state.specs.declared.Table.{Table}
 use Rattle.moves.specs.Sets.{withWire}
 use Rattle.moves.specs.Stored.{few, in-order-nodes}
+use Rattle.turns.specs.declared.Ask.{Ask}
 use Rattle.turns.specs.Turns.{atRow, atDesk}
 use Rattle.turns.specs.Called.{askOf}
 use Rattle.turns.specs.At.{At}
 use Rattle.turns.specs.Nodes.{node-ordered}
-use Rattle.lists.specs.EventList.{recordCount}
 use Rattle.runner.specs.Tables.{bodyIn, pending, settled, heard}
 use Rattle.runner.specs.Running.{Running, starts, keeps-length, ready, ends}
 use Rattle.runner.specs.Turning.{Coded, of-row, of-desk, of-wire, Turn, in-range, refused-way, at-row, asks-row, goes-row, learn-way, row-room, row-way, goes-desk, post-way, quiet-way, asks-wire, goes-wire, wire-way, same-body, unposted}
@@ -39,28 +37,66 @@ few-nodes l =
     let s = l .before .before .before .before in
     few (pending (l .loop .table) (l .loop .told)) (ready (s .args .out .now) (s .pre) (l .loop .inv .2))
 
+long-as-lent : (l : tie.At-loop Inv-loop μ-loop) → length (l .loop .out) ≡ length (l .before .before .before .before .args .out .now)
+long-as-lent l =
+    let s = l .before .before .before .before in
+    let k = s .pre .trailer .count in
+    keeps-length (s .args .out .now) (s .pre) (l .loop .inv .2) (omega arith)
+
 fewer : (count i nodes told : ℕ) → i < count → 16 * (count - (i + 1)) + (nodes - told) < 16 * (count - i) + (nodes - told)
 fewer count i nodes told h = omega arith
 
 -- ---- a turn that reads a record
 
+abbrev event-of : tie.After-read-record Inv-loop μ-loop → Event
+event-of r = record { kind = r .read-record .result .kind; node = r .read-record .result .node }
+
+abbrev table-of : tie.After-read-record Inv-loop μ-loop → Table
+table-of r = r .before .before .before .before .loop .table
+
+abbrev ask-of : tie.After-read-record Inv-loop μ-loop → Ask
+ask-of r = askOf (bodyIn (table-of r)) (event-of r .kind) (event-of r .node)
+
 turn : (r : tie.After-read-record Inv-loop μ-loop) → let l = r .before .before .before .before in let s = l .before .before .before .before in
-    Turn (s .args .list .now) (s .args .trailer) (s .args .out .now) (l .loop .i) (l .loop .writes) (l .loop .out) (l .loop .table) (l .loop .told)
-    (record { kind = r .read-record .result .kind; node = r .read-record .result .node })
+    Turn (s .args .list .now) (s .args .trailer) (s .args .out .now) (l .loop .i) (l .loop .writes) (l .loop .out) (table-of r) (l .loop .told) (event-of r)
 turn r =
     let l = r .before .before .before .before in
     let s = l .before .before .before .before in
     let k = s .pre .trailer .count in
     record { runs = s .pre; now = l .loop .inv .2; all = omega arith; is = r .read-record .ensures; lt = omega arith }
 
-coded : (c : tie.Joined3 Inv-loop μ-loop) → let r = c .before .before in let l = r .before .before .before .before in
-    Coded (l .loop .table) (record { kind = r .read-record .result .kind; node = r .read-record .result .node }) (l .loop .writes) (c .if3 .code)
-coded c =
-    let row = sym (c .before .at-row .ensures) in
+-- its answer, by its class
+coded : (j : tie.Joined3 Inv-loop μ-loop) → let r = j .before .before in Coded (table-of r) (event-of r) (r .before .before .before .before .loop .writes) (j .if3 .code)
+coded j =
+    let row = sym (j .before .at-row .ensures) in
     ⊎-elim (λ x. of-row (row ∙ x .0 .taken) (x .6 ∙ x .5 .ensures))
     (λ y. ⊎-elim (λ x. of-desk (row ∙ x .0 .left) (sym (x .1 .ensures) ∙ x .2 .taken) (x .6 ∙ x .5 .ensures))
     (λ x. of-wire (row ∙ x .0 .left) (sym (x .1 .ensures) ∙ x .2 .left) (x .6 ∙ x .5 .ensures)) y)
-    (c .if3 .came)
+    (j .if3 .came)
+
+-- ---- the class, where the answer is asked for and where it is 0
+
+is-row : (g : tie.Then3 Inv-loop μ-loop) → atRow (ask-of (g .before .before)) ≡ true
+is-row g = sym (g .before .at-row .ensures) ∙ g .if3 .taken
+
+row-again : (g : tie.Then6 Inv-loop μ-loop) → atRow (ask-of (g .before .before .before .before .before)) ≡ true
+row-again g = sym (g .before .at-row2 .ensures) ∙ g .if6 .taken
+
+no-row : (g : tie.Else6 Inv-loop μ-loop) → atRow (ask-of (g .before .before .before .before .before)) ≡ false
+no-row g = sym (g .before .at-row2 .ensures) ∙ g .if6 .left
+
+desk-again : (g : tie.Then8 Inv-loop μ-loop) → atDesk (ask-of (g .before .before .before .before .before .before .before)) ≡ true
+desk-again g = sym (g .before .at-desk2 .ensures) ∙ g .if8 .taken
+
+no-desk : (g : tie.Else8 Inv-loop μ-loop) → atDesk (ask-of (g .before .before .before .before .before .before .before)) ≡ false
+no-desk g = sym (g .before .at-desk2 .ensures) ∙ g .if8 .left
+
+-- its node
+node-first : (g : tie.Then3 Inv-loop μ-loop) → let r = g .before .before in At (bodyIn (table-of r)) (event-of r .node)
+node-first g = at-row (turn (g .before .before)) (is-row g)
+
+node-again : (g : tie.Then6 Inv-loop μ-loop) → let r = g .before .before .before .before .before in At (bodyIn (table-of r)) (event-of r .node)
+node-again g = at-row (turn (g .before .before .before .before .before)) (row-again g)
 
 fresh-table-requires : tie.Need-fresh-table-requires Inv-loop μ-loop
 fresh-table-requires c κs = search needs
@@ -126,44 +162,36 @@ at-row-requires c κs = search needs
 
 sub-at : tie.Need-sub-at Inv-loop μ-loop
 sub-at c =
-    let g = c .before in
-    let a = at-row (turn (g .before .before)) (sym (g .before .at-row .ensures) ∙ g .if3 .taken) in
+    let a = node-first (c .before) in
     omega arith
 
 cast-at-2 : tie.Need-cast-at-2 Inv-loop μ-loop
 cast-at-2 c =
-    let g = c .before in
-    let a = at-row (turn (g .before .before)) (sym (g .before .at-row .ensures) ∙ g .if3 .taken) in
+    let a = node-first (c .before) in
     omega arith
 
 mul-node-2 : tie.Need-mul-node-2 Inv-loop μ-loop
 mul-node-2 c =
-    let g = c .before in
-    let a = at-row (turn (g .before .before)) (sym (g .before .at-row .ensures) ∙ g .if3 .taken) in
+    let a = node-first (c .before) in
     omega arith
 
 element-copy-out-node-2 : tie.Need-element-copy-out-node-2 Inv-loop μ-loop
 element-copy-out-node-2 c =
-    let g = c .before in
-    let a = at-row (turn (g .before .before)) (sym (g .before .at-row .ensures) ∙ g .if3 .taken) in
+    let a = node-first (c .before) in
     omega arith
 
 mul-stream : tie.Need-mul-stream Inv-loop μ-loop
 mul-stream c =
-    let g = c .before .before in
-    let a = at-row (turn (g .before .before)) (sym (g .before .at-row .ensures) ∙ g .if3 .taken) in
+    let a = node-first (c .before .before) in
     omega arith
 
 element-copy-out-stream : tie.Need-element-copy-out-stream Inv-loop μ-loop
 element-copy-out-stream c =
-    let g = c .before .before in
-    let a = at-row (turn (g .before .before)) (sym (g .before .at-row .ensures) ∙ g .if3 .taken) in
+    let a = node-first (c .before .before) in
     omega arith
 
 row-code-requires : tie.Need-row-code-requires Inv-loop μ-loop
-row-code-requires c κs =
-    let g = c .before .before .before .before in
-    asks-row (turn (g .before .before)) (sym (g .before .at-row .ensures) ∙ g .if3 .taken)
+row-code-requires c κs = let g = c .before .before .before .before in asks-row (turn (g .before .before)) (is-row g)
 
 at-desk-requires : tie.Need-at-desk-requires Inv-loop μ-loop
 at-desk-requires c κs = search needs
@@ -180,8 +208,7 @@ slice-write-out : tie.Need-slice-write-out Inv-loop μ-loop
 slice-write-out c =
     let l = c .before .before .before .before .before .before in
     let s = l .before .before .before .before in
-    let k = s .pre .trailer .count in
-    let long = keeps-length (s .args .out .now) (s .pre) (l .loop .inv .2) (omega arith) in
+    let long = long-as-lent l in
     omega arith
 
 add-i : tie.Need-add-i Inv-loop μ-loop
@@ -203,45 +230,35 @@ at-row-requires-2 c κs = search needs
 
 sub-at-2 : tie.Need-sub-at-2 Inv-loop μ-loop
 sub-at-2 c =
-    let g = c .before in
-    let a = at-row (turn (g .before .before .before .before .before)) (sym (g .before .at-row2 .ensures) ∙ g .if6 .taken) in
+    let a = node-again (c .before) in
     omega arith
 
 cast-at-3 : tie.Need-cast-at-3 Inv-loop μ-loop
 cast-at-3 c =
-    let g = c .before in
-    let a = at-row (turn (g .before .before .before .before .before)) (sym (g .before .at-row2 .ensures) ∙ g .if6 .taken) in
+    let a = node-again (c .before) in
     omega arith
 
 mul-node-3 : tie.Need-mul-node-3 Inv-loop μ-loop
 mul-node-3 c =
-    let g = c .before in
-    let a = at-row (turn (g .before .before .before .before .before)) (sym (g .before .at-row2 .ensures) ∙ g .if6 .taken) in
+    let a = node-again (c .before) in
     omega arith
 
 element-copy-out-node-3 : tie.Need-element-copy-out-node-3 Inv-loop μ-loop
 element-copy-out-node-3 c =
-    let g = c .before in
-    let a = at-row (turn (g .before .before .before .before .before)) (sym (g .before .at-row2 .ensures) ∙ g .if6 .taken) in
+    let a = node-again (c .before) in
     omega arith
 
 learn-requires : tie.Need-learn-requires Inv-loop μ-loop
-learn-requires c κs =
-    let g = c .before .before .before .before in
-    let j = g .before .before .before in
-    let r = j .before .before in
-    node-ordered _ _ (at-row (turn r) (sym (g .before .at-row2 .ensures) ∙ g .if6 .taken))
+learn-requires c κs = node-ordered _ _ (node-again (c .before .before .before .before))
 
 mul-t67 : tie.Need-mul-t67 Inv-loop μ-loop
 mul-t67 c =
-    let g = c .before .before .before .before .before in
-    let a = at-row (turn (g .before .before .before .before .before)) (sym (g .before .at-row2 .ensures) ∙ g .if6 .taken) in
+    let a = node-again (c .before .before .before .before .before) in
     omega arith
 
 element-set-from-table-2 : tie.Need-element-set-from-table-2 Inv-loop μ-loop
 element-set-from-table-2 c =
-    let g = c .before .before .before .before .before in
-    let a = at-row (turn (g .before .before .before .before .before)) (sym (g .before .at-row2 .ensures) ∙ g .if6 .taken) in
+    let a = node-again (c .before .before .before .before .before) in
     omega arith
 
 loop-less-3 : tie.Need-loop-less-3 Inv-loop μ-loop
@@ -253,63 +270,59 @@ loop-again-3 : tie.Need-loop-again-3 Inv-loop μ-loop
 loop-again-3 c =
     let g = c .before .before .before .before .before in
     let j = g .before .before .before in
-    let r = j .before .before in
-    (omega arith, omega arith, unposted _ _ (turn r .all) (learn-way (turn r) (sym (g .before .at-row2 .ensures) ∙ g .if6 .taken) (j .if3 .code) (coded j) (g .before .before .if5 .left) (c .before .if7 .taken) (c .learn .result) (c .learn .ensures)))
+    let h = turn (j .before .before) in
+    let done = g .before .before .if5 .left in
+    (omega arith, omega arith, unposted _ _ (h .all) (learn-way h (row-again g) (j .if3 .code) (coded j) done (c .before .if7 .taken) (c .learn .result) (c .learn .ensures)))
 
 mul-stream-2 : tie.Need-mul-stream-2 Inv-loop μ-loop
 mul-stream-2 c =
-    let g = c .before .before .before .before in
-    let a = at-row (turn (g .before .before .before .before .before)) (sym (g .before .at-row2 .ensures) ∙ g .if6 .taken) in
+    let a = node-again (c .before .before .before .before) in
     omega arith
 
 element-copy-out-stream-2 : tie.Need-element-copy-out-stream-2 Inv-loop μ-loop
 element-copy-out-stream-2 c =
-    let g = c .before .before .before .before in
-    let a = at-row (turn (g .before .before .before .before .before)) (sym (g .before .at-row2 .ensures) ∙ g .if6 .taken) in
+    let a = node-again (c .before .before .before .before) in
     omega arith
 
 row-after-requires : tie.Need-row-after-requires Inv-loop μ-loop
 row-after-requires c κs =
     let g = c .before .before .before .before .before .before in
     let j = g .before .before .before in
-    let r = j .before .before in
-    (goes-row (turn r) (sym (g .before .at-row2 .ensures) ∙ g .if6 .taken) (j .if3 .code) (coded j) (g .before .before .if5 .left), c .before .before .if7 .left)
+    let h = turn (j .before .before) in
+    let done = g .before .before .if5 .left in
+    (goes-row h (row-again g) (j .if3 .code) (coded j) done, c .before .before .if7 .left)
 
 mul-table : tie.Need-mul-table Inv-loop μ-loop
 mul-table c =
-    let g = c .before .before .before .before .before .before .before .before .before .before in
-    let a = at-row (turn (g .before .before .before .before .before)) (sym (g .before .at-row2 .ensures) ∙ g .if6 .taken) in
+    let a = node-again (c .before .before .before .before .before .before .before .before .before .before) in
     omega arith
 
 way-write-given-table : tie.Need-way-write-given-table Inv-loop μ-loop
 way-write-given-table c =
-    let g = c .before .before .before .before .before .before .before .before .before .before in
-    let a = at-row (turn (g .before .before .before .before .before)) (sym (g .before .at-row2 .ensures) ∙ g .if6 .taken) in
+    let a = node-again (c .before .before .before .before .before .before .before .before .before .before) in
     omega arith
 
 mul-next : tie.Need-mul-next Inv-loop μ-loop
 mul-next c =
-    let g = c .before .before .before .before .before .before .before .before .before .before .before in
-    let a = at-row (turn (g .before .before .before .before .before)) (sym (g .before .at-row2 .ensures) ∙ g .if6 .taken) in
+    let a = node-again (c .before .before .before .before .before .before .before .before .before .before .before) in
     omega arith
 
 element-set-from-next : tie.Need-element-set-from-next Inv-loop μ-loop
 element-set-from-next c =
-    let g = c .before .before .before .before .before .before .before .before .before .before .before in
-    let a = at-row (turn (g .before .before .before .before .before)) (sym (g .before .at-row2 .ensures) ∙ g .if6 .taken) in
+    let a = node-again (c .before .before .before .before .before .before .before .before .before .before .before) in
     omega arith
 
 keep-requires : tie.Need-keep-requires Inv-loop μ-loop
 keep-requires c κs =
     let g = c .before .before .before .before .before .before .before .before .before .before .before .before in
     let j = g .before .before .before in
-    let r = j .before .before in
-    let l = r .before .before .before .before in
+    let h = turn (j .before .before) in
+    let done = g .before .before .if5 .left in
+    let l = j .before .before .before .before .before .before in
     let s = l .before .before .before .before in
-    let k = s .pre .trailer .count in
-    let long = keeps-length (s .args .out .now) (s .pre) (l .loop .inv .2) (omega arith) in
+    let long = long-as-lent l in
     let x = c .before .before .before .before .before in
-    (simp length-set (omega arith), row-room (turn r) (sym (g .before .at-row2 .ensures) ∙ g .if6 .taken) (j .if3 .code) (coded j) (g .before .before .if5 .left) (x .before .before .before .if7 .left) (x .row-after .result) (x .row-after .ensures))
+    (simp length-set (omega arith), row-room h (row-again g) (j .if3 .code) (coded j) done (x .before .before .before .if7 .left) (x .row-after .result) (x .row-after .ensures))
 
 loop-less-4 : tie.Need-loop-less-4 Inv-loop μ-loop
 loop-less-4 c =
@@ -321,23 +334,22 @@ loop-again-4 : tie.Need-loop-again-4 Inv-loop μ-loop
 loop-again-4 c =
     let g = c .before .before .before .before .before .before .before .before .before .before .before .before .before .before .before in
     let j = g .before .before .before in
-    let r = j .before .before in
+    let h = turn (j .before .before) in
+    let done = g .before .before .if5 .left in
     let x = c .before .before .before .before .before .before .before .before in
-    let kept = c .before .before .keep .ensures in (
-      omega arith,
-      omega arith,
-      unposted _ _ (turn r .all)
-          (row-way (turn r) (sym (g .before .at-row2 .ensures) ∙ g .if6 .taken) (j .if3 .code) (coded j) (g .before .before .if5 .left) (x .before .before .before .if7 .left) (x .row-after .result) (x .row-after .ensures) (kept .1) (kept .0)),
-    )
+    let kept = c .before .before .keep .ensures in
+    (omega arith, omega arith, unposted _ _ (h .all) (row-way h (row-again g) (j .if3 .code) (coded j) done (x .before .before .before .if7 .left) (x .row-after .result) (x .row-after .ensures) (kept .1) (kept .0)))
 
 at-desk-requires-2 : tie.Need-at-desk-requires-2 Inv-loop μ-loop
 at-desk-requires-2 c κs = search needs
 
 service-after-requires : tie.Need-service-after-requires Inv-loop μ-loop
 service-after-requires c κs =
-    let j = c .before .before .before .before .before .before in
-    goes-desk (turn (j .before .before)) (sym (c .before .before .before .before .at-row2 .ensures) ∙ c .before .before .before .if6 .left) (sym (c .before .before .at-desk2 .ensures) ∙ c .before .if8 .taken)
-    (j .if3 .code) (coded j) (c .before .before .before .before .before .if5 .left)
+    let g = c .before in
+    let j = g .before .before .before .before .before in
+    let h = turn (j .before .before) in
+    let done = g .before .before .before .before .if5 .left in
+    goes-desk h (no-row (g .before .before)) (desk-again g) (j .if3 .code) (coded j) done
 
 posts-requires : tie.Need-posts-requires Inv-loop μ-loop
 posts-requires c κs = search needs
@@ -352,12 +364,9 @@ loop-again-5 c =
     let g = c .before .before .before .before in
     let j = g .before .before .before .before .before in
     let h = turn (j .before .before) in
-    let x = c .before .before .service-after in (
-      omega arith,
-      omega arith,
-      (post-way h (sym (g .before .before .before .at-row2 .ensures) ∙ g .before .before .if6 .left) (sym (g .before .at-desk2 .ensures) ∙ g .if8 .taken)
-          (j .if3 .code) (coded j) (g .before .before .before .before .if5 .left) (x .result) (x .ensures) (sym (c .before .posts .ensures) ∙ c .if9 .taken)),
-    )
+    let done = g .before .before .before .before .if5 .left in
+    let x = c .before .before .service-after in
+    (omega arith, omega arith, post-way h (no-row (g .before .before)) (desk-again g) (j .if3 .code) (coded j) done (x .result) (x .ensures) (sym (c .before .posts .ensures) ∙ c .if9 .taken))
 
 loop-less-6 : tie.Need-loop-less-6 Inv-loop μ-loop
 loop-less-6 c =
@@ -369,18 +378,17 @@ loop-again-6 c =
     let g = c .before .before .before .before in
     let j = g .before .before .before .before .before in
     let h = turn (j .before .before) in
-    let x = c .before .before .service-after in (
-      omega arith,
-      omega arith,
-      (unposted _ _ (h .all) (quiet-way h (sym (g .before .before .before .at-row2 .ensures) ∙ g .before .before .if6 .left) (sym (g .before .at-desk2 .ensures) ∙ g .if8 .taken)
-          (j .if3 .code) (coded j) (g .before .before .before .before .if5 .left) (x .result) (x .ensures) (sym (c .before .posts .ensures) ∙ c .if9 .left))),
-    )
+    let done = g .before .before .before .before .if5 .left in
+    let x = c .before .before .service-after in
+    (omega arith, omega arith, unposted _ _ (h .all) (quiet-way h (no-row (g .before .before)) (desk-again g) (j .if3 .code) (coded j) done (x .result) (x .ensures) (sym (c .before .posts .ensures) ∙ c .if9 .left)))
 
 wire-after-requires : tie.Need-wire-after-requires Inv-loop μ-loop
 wire-after-requires c κs =
-    let j = c .before .before .before .before .before .before .before in
-    goes-wire (turn (j .before .before)) (sym (c .before .before .before .before .before .at-row2 .ensures) ∙ c .before .before .before .before .if6 .left)
-    (sym (c .before .before .before .at-desk2 .ensures) ∙ c .before .before .if8 .left) (j .if3 .code) (coded j) (c .before .before .before .before .before .before .if5 .left)
+    let g = c .before .before in
+    let j = g .before .before .before .before .before in
+    let h = turn (j .before .before) in
+    let done = g .before .before .before .before .if5 .left in
+    goes-wire h (no-row (g .before .before)) (no-desk g) (j .if3 .code) (coded j) done
 
 runs-after-requires : tie.Need-runs-after-requires Inv-loop μ-loop
 runs-after-requires c κs = search needs
@@ -395,20 +403,16 @@ loop-again-7 c =
     let g = c .before .before .before .before .before .before in
     let j = g .before .before .before .before .before in
     let h = turn (j .before .before) in
+    let done = g .before .before .before .before .if5 .left in
     let x = c .before .before .before .wire-after in (
       omega arith,
       omega arith,
-      unposted _ _ (h .all) (same-body (ap (λ (y : Bool). withWire y (x .result .streams) (x .result .claims) (bodyIn (j .before .before .before .before .before .before .loop .table))) (c .runs-after .ensures))
-          (wire-way h (sym (g .before .before .before .at-row2 .ensures) ∙ g .before .before .if6 .left) (sym (g .before .at-desk2 .ensures) ∙ g .if8 .left)
-          (j .if3 .code) (coded j) (g .before .before .before .before .if5 .left) (x .result) (x .ensures))),
+      unposted _ _ (h .all)
+          (same-body (ap (λ (y : Bool). withWire y (x .result .streams) (x .result .claims) (bodyIn (table-of (j .before .before)))) (c .runs-after .ensures)) (wire-way h (no-row (g .before .before)) (no-desk g) (j .if3 .code) (coded j) done (x .result) (x .ensures))),
     )
 
 same-length : tie.Need-same-length Inv-loop μ-loop
-same-length c =
-    let l = c .before .before in
-    let s = l .before .before .before .before in
-    let k = s .pre .trailer .count in
-    keeps-length (s .args .out .now) (s .pre) (l .loop .inv .2) (omega arith)
+same-length c = long-as-lent (c .before .before)
 
 returns : tie.Need-returns Inv-loop μ-loop
 returns c =
