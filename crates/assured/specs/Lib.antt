@@ -1,2 +1,3 @@
 pub mod Assured
 pub mod Meaning
+pub mod Sample
