@@ -1,13 +1,14 @@
 # make run [LIST=file]   prove and build the program, then run an event list (hex text or bytes)
 # make test              the gate: every proof, every must-fail edit, every test
 # make lib               target/staticlib/libhoefspanker.a for a C host
-# make install PREFIX=   the library, its header, its pkg-config file and the program
+# make install PREFIX=   the library, its header, its pkg-config file and the programs
 # make bench             the library against a plain Rust version
 # make clean
 LIST ?= examples/sample.hex
 PREFIX ?= /usr/local
 DESTDIR ?=
 PROGRAM = target/bin/replay
+PROGRAMS = replay compare
 LIBRARY = target/staticlib/libhoefspanker.a
 VERSION = 1.0.0
 
@@ -18,7 +19,7 @@ run: program
 
 program:
 	@mkdir -p build
-	@rt check replay >build/program.log 2>&1 || { cat build/program.log; exit 1; }
+	@rt check $(PROGRAMS) >build/program.log 2>&1 || { cat build/program.log; exit 1; }
 
 lib:
 	rt staticlib hoefspanker
@@ -32,7 +33,7 @@ bench: lib
 
 install: program lib
 	install -d "$(DESTDIR)$(PREFIX)/bin" "$(DESTDIR)$(PREFIX)/include" "$(DESTDIR)$(PREFIX)/lib/pkgconfig"
-	install -m 755 $(PROGRAM) "$(DESTDIR)$(PREFIX)/bin/replay"
+	install -m 755 $(PROGRAMS:%=target/bin/%) "$(DESTDIR)$(PREFIX)/bin"
 	install -m 644 include/hoefspanker.h "$(DESTDIR)$(PREFIX)/include"
 	install -m 644 $(LIBRARY) "$(DESTDIR)$(PREFIX)/lib"
 	sed -e 's|@PREFIX@|$(PREFIX)|' -e 's|@VERSION@|$(VERSION)|' include/hoefspanker.pc.in >"$(DESTDIR)$(PREFIX)/lib/pkgconfig/hoefspanker.pc"
