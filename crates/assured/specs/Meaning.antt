@@ -14,15 +14,14 @@ use Rattle.rules.specs.Step.{Event}
 use Rattle.merges.specs.Independent.{independent}
 use Rattle.seqs.specs.Tables.{table, table-ext}
 use Rattle.lists.specs.EventList.{nodeCount, recordCount, recordAt, records, need, lengthFits, trailerFits, nodesFit, sumFits, refusal}
-use Rattle.audit.specs.SameRun.{Remerged}
 use Rattle.audit.specs.Audit.{audit}
-use Rattle.verdict.specs.Verdict.{Exchanges, Pulled, taken, blocked, missing, behind, met, pull, whenTaken, exchangeable, sameEvent, Independent, sameMerge}
+use Rattle.verdict.specs.Verdict.{Exchanges, Pulled, taken, blocked, missing, met, pull, whenTaken, exchangeable, sameEvent, Independent, sameMerge}
 use Rattle.verdict.specs.Exact.{exact}
 use Rattle.comparing.specs.declared.Finding.{Finding}
-use Rattle.comparing.specs.Compare.{same, onlyFirst, onlySecond, from, seek, free, equal, obstacle, looked, compare}
+use Rattle.comparing.specs.Compare.{same, from, seek, free, equal, obstacle, looked, compare}
 use Rattle.comparing.specs.Compared.{ofSecond, nodesDiffer, refused, comparison, compared}
 use Rattle.comparing.specs.Refusing.{first-refused, second-refused, nodes-differ, both-good}
-use Rattle.assured.specs.Assured.{Merges, SameMeans, Assured, SameAssures}
+use Rattle.assured.specs.Assured.{Merges, SameMeans, SameAssures}
 
 -- ---- looking among places is looking among what stands there
 
