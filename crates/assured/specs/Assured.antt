@@ -1,14 +1,16 @@
 -- What the verdict on two lists of bytes means: it is `same` exactly where exchanges of independent neighbours lead from the records of the one list to those of
--- the other; and then running them gives the same. `Meaning` proves both. Assumes nothing.
+-- the other; and then running them gives the same. `Meaning` proves both, and `Names` what the places say. Assumes nothing.
 use mathlib.Core.Path.{_≡_}
 use mathlib.Core.Logic.{_↔_}
+use mathlib.Core.Bool.{false}
 use mathlib.Core.List.{List}
-use Prim.Native.Nat.{ℕ, _+_, _≤_}
+use Prim.Native.Nat.{ℕ, _+_, _≤_, _<_}
 use lib.ListN.{length}
-use Rattle.lists.specs.EventList.{recordCount}
+use Rattle.merges.specs.Independent.{independent}
+use Rattle.lists.specs.EventList.{nodeCount, recordCount, recordAt}
 use Rattle.runner.specs.Ran.{historyRoom}
 use Rattle.audit.specs.SameRun.{Remerged, SameRun}
-use Rattle.comparing.specs.Compare.{same}
+use Rattle.comparing.specs.Compare.{same, order}
 use Rattle.comparing.specs.Compared.{compared}
 
 -- Both lists are accepted, their node counts are the same, and there are places at which exchanges of independent neighbours make the second from the first.
@@ -27,3 +29,16 @@ pub record Assured (first second out : List ℕ) : Type 0 where
 -- For every buffer that is long enough.
 abbrev pub SameAssures : Type 0
 SameAssures = (first second out : List ℕ) → compared first second ≡ same → recordCount first + historyRoom ≤ length out → Assured first second out
+
+-- ---- what is named
+
+-- Records a and b of the first list are records a′ and b′ of the second, depend on one another, and stand in the other order there. Places count from 0.
+pub record Crossed (first second : List ℕ) (a b a′ b′ : ℕ) : Type 0 where
+  pub same-a : recordAt first a ≡ recordAt second a′
+  pub same-b : recordAt first b ≡ recordAt second b′
+  pub dependent : independent (nodeCount first) (recordAt first a) (recordAt first b) ≡ false
+  pub before : a < b
+  pub behind : b′ < a′
+
+abbrev pub OrderNames : Type 0
+OrderNames = (first second : List ℕ) (a b a′ b′ : ℕ) → compared first second ≡ order a b a′ b′ → Crossed first second a b a′ b′

@@ -1,3 +1,4 @@
 pub mod Assured
 pub mod Meaning
+pub mod Names
 pub mod Sample

@@ -98,17 +98,17 @@ small-refusal list = go (lengthFits list) (trailerFits list) (nodesFit list) (su
     go true true true true = omega arith
 
 -- Both are accepted, of one node count.
-record Comparable (first second : List ℕ) : Type 0 where
-  one : refusal first ≡ 0
-  other : refusal second ≡ 0
-  nodes : nodeCount first ≡ nodeCount second
+pub record Comparable (first second : List ℕ) : Type 0 where
+  pub one : refusal first ≡ 0
+  pub other : refusal second ≡ 0
+  pub nodes : nodeCount first ≡ nodeCount second
 
-comparable : (first second : List ℕ) → compared first second ≡ same → Comparable first second
+pub comparable : (first second : List ℕ) → 256 ≤ compared first second .verdict → Comparable first second
 comparable first second e = go (ℕ-discrete (refusal first) 0) (ℕ-discrete (refusal second) 0) (ℕ-discrete (nodeCount first) (nodeCount second))
   where
     -- no refusal is a verdict
     never : (code : ℕ) → code ≤ 28 → compared first second ≡ refused code → ⊥
-    never code h i = let z = verdict-of (sym i ∙ e) in omega arith
+    never code h i = let z = ap (λ (f : Finding). f .verdict) i in omega arith
 
     go : Dec (refusal first ≡ 0) → Dec (refusal second ≡ 0) → Dec (nodeCount first ≡ nodeCount second) → Comparable first second
     go (no a) b c = absurd (never (refusal first) (let s = small-refusal first in omega arith) (first-refused first second a))
@@ -129,7 +129,7 @@ same-means first second = (there, back)
   where
     there : compared first second ≡ same → Merges first second
     there e =
-        let c = comparable first second e in
+        let c = comparable first second (let z = verdict-of e in omega arith) in
         let x = exact (nodeCount first) (records first) (records second) .0 (on-records first second .0 (sym (both-good first second (c .one) (c .other) (c .nodes)) ∙ e)) in
         record {
           places = x .places;

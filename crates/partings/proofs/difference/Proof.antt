@@ -1,7 +1,9 @@
 -- `difference` meets its contract. Assumes nothing.
 use mathlib.Core.Path.{ap, sym, _∙_}
 use mathlib.Core.Bool.{Bool, cond}
+use Prim.Native.Nat.{_≤_}
 use native.Mathlib.Omega.{arith}
+use Rattle.rules.specs.Limits.{historyLength}
 use Rattle.seqs.specs.Tables.{table-length}
 use Rattle.partings.specs.Difference.{agrees, differsAt, entryAt, entries}
 use Rattle.partings.specs.Entries.{common-le, parted, differs-in}
@@ -22,19 +24,19 @@ entry-of-requires c κs = search needs
 entry-of-requires-2 : tie.Need-entry-of-requires-2
 entry-of-requires-2 c κs = search needs
 
-cast-t12 : tie.Need-cast-t12
-cast-t12 c = let x = c .before .before .before .before .before .before .args in
+-- no more than a full history
+few : (c : tie.After-entry-of2) → c .before .before .before .common .result ≤ historyLength
+few c = let x = c .before .before .before .before .before .before .args in
     let low = common-le (entries (x .one .now) (x .n)) (entries (x .other .now) (x .m)) in
     let size = table-length (x .n) (entryAt (x .one .now)) in
     let is = c .before .before .before .common .ensures in
     omega arith
 
+cast-t12 : tie.Need-cast-t12
+cast-t12 c = let n = few c in omega arith
+
 add-t13 : tie.Need-add-t13
-add-t13 c = let x = c .before .before .before .before .before .before .args in
-    let low = common-le (entries (x .one .now) (x .n)) (entries (x .other .now) (x .m)) in
-    let size = table-length (x .n) (entryAt (x .one .now)) in
-    let is = c .before .before .before .common .ensures in
-    omega arith
+add-t13 c = let n = few c in omega arith
 
 returns-2 : tie.Need-returns-2
 returns-2 c = let x = c .before .before .before .before .before .before .args in
