@@ -81,7 +81,7 @@ module _ (f : ℕ → Event) where
   by-places a zero = refl
   by-places a (suc n) = ap₂ _∷_ (ap f (sym (add-zero a))) (by-places (suc a) n ∙ table-ext n (λ i. f (a + suc i)) (λ i. f (suc a + i)) (λ i. ap f (suc-add a i ∙ sym (add-suc a i))))
 
-  all-places : (n : ℕ) → map f (from 0 n) ≡ table n f
+  pub all-places : (n : ℕ) → map f (from 0 n) ≡ table n f
   all-places n = by-places 0 n ∙ table-ext n f (λ i. f (0 + i)) (λ i. ap f (zero-add i))
 
 -- ---- the lists

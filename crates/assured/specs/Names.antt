@@ -1,25 +1,22 @@
 -- Where the comparison names two records that stand in the other order, they do, and they depend on one another. Assumes nothing.
-use mathlib.Core.Path.{_≡_, refl, sym, ap, ap₂, subst, _∙_}
+use mathlib.Core.Path.{_≡_, refl, sym, ap, subst, _∙_}
 use mathlib.Core.Logic.{_≢_}
 use mathlib.Core.Bool.{Bool, true, false, true≢false}
 use mathlib.Core.Option.{Option, none, some}
 use mathlib.Core.List.{List, [], _∷_}
-use Prim.Native.Nat.{ℕ, zero, suc, _+_, _≤_, _<_}
+use Prim.Native.Nat.{ℕ, zero, suc, _<_}
 use native.Mathlib.Omega.{arith}
-use lib.Dec.{T}
 use Rattle.rules.specs.Step.{Event}
 use Rattle.laws.specs.InRange.{All}
-use Rattle.laws.specs.Lists.{all-with}
 use Rattle.merges.specs.Independent.{independent}
 use Rattle.lists.specs.EventList.{nodeCount, recordCount, recordAt}
-use Rattle.verdict.specs.Verdict.{Pulled, taken, blocked, missing, behind, met, pull, sameEvent}
+use Rattle.verdict.specs.Verdict.{Pulled, taken, blocked, missing, behind, met, pull}
 use Rattle.verdict.specs.Steps.{same-eq, independent-self}
 use Rattle.comparing.specs.declared.Finding.{Finding}
-use Rattle.comparing.specs.Compare.{same, order, onlyFirst, onlySecond, from, found, seek, free, equal, obstacle, looked, compare}
-use Rattle.comparing.specs.Compared.{comparison, compared}
+use Rattle.comparing.specs.Compare.{order, from, found, seek, free, equal, obstacle, looked, compare}
 use Rattle.comparing.specs.Refusing.{both-good}
 use Rattle.comparing.specs.Left.{nowhere}
-use Rattle.assured.specs.Assured.{Crossed, OrderNames}
+use Rattle.assured.specs.Assured.{OrderNames}
 use Rattle.assured.specs.Meaning.{comparable}
 
 -- ---- places in order
@@ -55,13 +52,13 @@ sought-all P test (y ∷ l) x h e = go (test y) (sought-all P test l x (h .1)) e
 
 -- ---- what blocks, and what is left
 
-never : {x : ℕ} {l : List ℕ} {B : Type 0} → taken l ≡ blocked x → B
+pub never : {x : ℕ} {l : List ℕ} {B : Type 0} → taken l ≡ blocked x → B
 never e = let z : _≡_ {A = ℕ} 0 1 = cc in absurd (omega arith)
 
-lost : {x : ℕ} {B : Type 0} → missing ≡ blocked x → B
+pub lost : {x : ℕ} {B : Type 0} → missing ≡ blocked x → B
 lost e = let z : _≡_ {A = ℕ} 0 1 = cc in absurd (omega arith)
 
-absent : {l : List ℕ} {B : Type 0} → missing ≡ taken l → B
+pub absent : {l : List ℕ} {B : Type 0} → missing ≡ taken l → B
 absent e = let z : _≡_ {A = ℕ} 0 1 = cc in absurd (omega arith)
 
 module _ (may wanted : ℕ → Bool) where
@@ -126,10 +123,10 @@ module _ (count : ℕ) (here there : ℕ → Event) where
     before : a < b
     behind : b′ < a′
 
-  alike : (a b : ℕ) → equal count here there a b ≡ true → here a ≡ there b
+  pub alike : (a b : ℕ) → equal count here there a b ≡ true → here a ≡ there b
   alike a b e = same-eq (here a) (there b) (rw e tt)
 
-  own : (a q : ℕ) → equal count here there a q ≡ true → free count here there a q ≡ false
+  pub own : (a q : ℕ) → equal count here there a q ≡ true → free count here there a q ≡ false
   own a q e = ap (independent count (here a)) (sym (alike a q e)) ∙ independent-self count (here a)
 
   -- Record p is blocked by s; it stands at r in the second list, and s stands at f in the first.
