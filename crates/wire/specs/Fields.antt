@@ -1,0 +1,40 @@
+-- The fields of protobuf's wire format.
+use mathlib.Core.Bool.{Bool, cond, _&&_}
+use mathlib.Core.List.{List}
+use Prim.Native.Nat.{ℕ, _/_, _%_}
+use lib.Dec.{leb, eqb}
+use lib.ListN.{length, take, drop}
+use Rattle.wire.specs.Numbers.{Taken, taken, fault, after, cutShort, badTag, number}
+
+-- A field of a message: its number and what it holds.
+pub data Field : Type 0 where
+  -- Wire type 0: a number.
+  varint : ℕ → ℕ → Field
+  -- Wire types 1 and 5: eight bytes, or four. No message here has one, so that what they hold is left out.
+  fixed : ℕ → Field
+  -- Wire type 2: as many bytes as their length says.
+  bytes : ℕ → List ℕ → Field
+
+-- The first n bytes.
+unfoldable pub part : ℕ → List ℕ → Taken (List ℕ)
+part n l = cond (leb n (length l)) (taken (take n l) (drop n l)) (fault cutShort)
+
+-- What a tag of the wire type and the field number has behind it.
+unfoldable pub content : ℕ → ℕ → List ℕ → Taken Field
+content wire n l =
+    cond (eqb wire 0) (after (number l) (λ value rest. taken (varint n value) rest))
+    (cond (eqb wire 1) (after (part 8 l) (λ skipped rest. taken (fixed n) rest))
+    (cond (eqb wire 2) (after (number l) (λ size rest. after (part size rest) (λ held behind. taken (bytes n held) behind)))
+    (cond (eqb wire 5) (after (part 4 l) (λ skipped rest. taken (fixed n) rest))
+    (fault badTag))))
+
+abbrev pub lastNumber : ℕ
+lastNumber = 536870911
+
+-- Field numbers begin at 1.
+abbrev pub isNumber : ℕ → Bool
+isNumber n = leb 1 n && leb n lastNumber
+
+-- A tag is a number: its low three bits are the wire type, the others the field number. It is judged before what stands behind it.
+unfoldable pub field : List ℕ → Taken Field
+field l = after (number l) (λ tag rest. cond (isNumber (tag / 8)) (content (tag % 8) (tag / 8) rest) (fault badTag))

@@ -1,0 +1,6 @@
+pub mod Numbers
+pub mod Fields
+pub mod Messages
+pub mod Places
+pub mod Groups
+pub mod Joining
