@@ -19,14 +19,20 @@ pub data Field : Type 0 where
 unfoldable pub part : ℕ → List ℕ → Taken (List ℕ)
 part n l = cond (leb n (length l)) (taken (take n l) (drop n l)) (fault cutShort)
 
--- What a tag of the wire type and the field number has behind it.
+-- What stands behind a tag, by its wire type, as a field of number n.
+abbrev pub asVarint : ℕ → List ℕ → Taken Field
+asVarint n l = after (number l) (λ value rest. taken (varint n value) rest)
+
+abbrev pub asFixed : ℕ → ℕ → List ℕ → Taken Field
+asFixed size n l = after (part size l) (λ skipped rest. taken (fixed n) rest)
+
+-- A length, and as many bytes.
+abbrev pub asBytes : ℕ → List ℕ → Taken Field
+asBytes n l = after (number l) (λ size rest. after (part size rest) (λ held behind. taken (bytes n held) behind))
+
 unfoldable pub content : ℕ → ℕ → List ℕ → Taken Field
 content wire n l =
-    cond (eqb wire 0) (after (number l) (λ value rest. taken (varint n value) rest))
-    (cond (eqb wire 1) (after (part 8 l) (λ skipped rest. taken (fixed n) rest))
-    (cond (eqb wire 2) (after (number l) (λ size rest. after (part size rest) (λ held behind. taken (bytes n held) behind)))
-    (cond (eqb wire 5) (after (part 4 l) (λ skipped rest. taken (fixed n) rest))
-    (fault badTag))))
+    cond (eqb wire 0) (asVarint n l) (cond (eqb wire 1) (asFixed 8 n l) (cond (eqb wire 2) (asBytes n l) (cond (eqb wire 5) (asFixed 4 n l) (fault badTag))))
 
 abbrev pub lastNumber : ℕ
 lastNumber = 536870911

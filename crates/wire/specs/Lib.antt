@@ -4,3 +4,4 @@ pub mod Messages
 pub mod Places
 pub mod Groups
 pub mod Joining
+pub mod Readers
