@@ -26,9 +26,12 @@ asVarint n l = after (number l) (λ value rest. taken (varint n value) rest)
 abbrev pub asFixed : ℕ → ℕ → List ℕ → Taken Field
 asFixed size n l = after (part size l) (λ skipped rest. taken (fixed n) rest)
 
+abbrev pub partAs : ℕ → ℕ → List ℕ → Taken Field
+partAs n size l = after (part size l) (λ held rest. taken (bytes n held) rest)
+
 -- A length, and as many bytes.
 abbrev pub asBytes : ℕ → List ℕ → Taken Field
-asBytes n l = after (number l) (λ size rest. after (part size rest) (λ held behind. taken (bytes n held) behind))
+asBytes n l = after (number l) (partAs n)
 
 unfoldable pub content : ℕ → ℕ → List ℕ → Taken Field
 content wire n l =

@@ -5,3 +5,4 @@ pub mod Places
 pub mod Groups
 pub mod Joining
 pub mod Readers
+pub mod Found

@@ -1,8 +1,10 @@
 // Protobuf's wire format: numbers, tags and fields, read at a place of a message.
 ghost use mathlib.Core.Path.{_≡_};
-ghost use Prim.Native.Nat.{_*_, _%_, _^_, _<_};
+ghost use Prim.Native.Nat.{_*_, _%_, _^_, _<_, _≤_};
+ghost use lib.ListN.{length, drop};
 ghost use Rattle.wire.specs.Groups.{joined};
-ghost use Rattle.wire.specs.Places.{numberAt};
+ghost use Rattle.wire.specs.Places.{noNumber, numberAt, noField, foundField, fieldAt};
+ghost use Rattle.wire.specs.Fields.{asVarint, asFixed, asBytes, content, partAs};
 
 // Nothing is wrong.
 pub const READ: u8 = 0;
@@ -26,7 +28,7 @@ pub struct Number {
 }
 
 fn no_number(code: u8) -> Number
-    ensures { λ r. ⌜ r ≡ record { code = code; value = 0; next = 0 } ⌝ }
+    ensures { λ r. ⌜ r ≡ noNumber code ⌝ }
 {
     Number {
         code: code,
@@ -74,4 +76,101 @@ pub fn read_number(message: &[u8], at: usize) -> Number
         shift += 7;
     }
     no_number(CUT_SHORT)
+}
+
+// ---- fields
+
+// What a field holds: a number, four or eight bytes, or as many bytes as its length says.
+pub const VARINT: u8 = 0;
+pub const FIXED: u8 = 1;
+pub const BYTES: u8 = 2;
+
+const LAST_NUMBER: u64 = 536870911;
+
+// The field at a place: its number, its value if it holds a number, the place of its bytes if it holds bytes, and the place behind it. What does
+// not apply is 0, and all is 0 beside a fault.
+pub struct Field {
+    pub code: u8,
+    pub kind: u8,
+    pub number: u64,
+    pub value: u64,
+    pub start: usize,
+    pub next: usize,
+}
+
+fn no_field(code: u8) -> Field
+    ensures { λ r. ⌜ r ≡ noField code ⌝ }
+{
+    Field {
+        code: code,
+        kind: VARINT,
+        number: 0,
+        value: 0,
+        start: 0,
+        next: 0,
+    }
+}
+
+// ---- what stands behind a tag, by its wire type
+
+fn read_varint(message: &[u8], at: usize, number: u64) -> Field
+    ensures { λ r. ⌜ r ≡ foundField (now (message .entry)) (asVarint number (drop at (now (message .entry)))) ⌝ }
+{
+    let read = read_number(message, at);
+    if read.code == READ {
+        return Field {
+            code: READ,
+            kind: VARINT,
+            number: number,
+            value: read.value,
+            start: 0,
+            next: read.next,
+        };
+    }
+    no_field(read.code)
+}
+
+fn skip_fixed(message: &[u8], at: usize, number: u64, size: usize) -> Field
+    requires { ⌜ at ≤ length (now message) ⌝ }
+    ensures { λ r. ⌜ r ≡ foundField (now (message .entry)) (asFixed size number (drop at (now (message .entry)))) ⌝ }
+{
+    if size <= message.len() - at {
+        return Field {
+            code: READ,
+            kind: FIXED,
+            number: number,
+            value: 0,
+            start: 0,
+            next: at + size,
+        };
+    }
+    no_field(CUT_SHORT)
+}
+
+// The bytes behind a length that has been read.
+fn read_part(message: &[u8], at: usize, number: u64, size: u64) -> Field
+    requires { ⌜ at ≤ length (now message) ⌝ }
+    ensures { λ r. ⌜ r ≡ foundField (now (message .entry)) (partAs number size (drop at (now (message .entry)))) ⌝ }
+{
+    if size <= (message.len() - at) as u64 {
+        return Field {
+            code: READ,
+            kind: BYTES,
+            number: number,
+            value: 0,
+            start: at,
+            next: at + size as usize,
+        };
+    }
+    no_field(CUT_SHORT)
+}
+
+fn read_bytes(message: &[u8], at: usize, number: u64) -> Field
+    ensures { λ r. ⌜ r ≡ foundField (now (message .entry)) (asBytes number (drop at (now (message .entry)))) ⌝ }
+{
+    let size = read_number(message, at);
+    if size.code == READ {
+        return read_part(message, size.next, number, size.value);
+    }
+    no_field(size.code)
 }
