@@ -44,6 +44,10 @@ lastNumber = 536870911
 abbrev pub isNumber : ℕ → Bool
 isNumber n = leb 1 n && leb n lastNumber
 
--- A tag is a number: its low three bits are the wire type, the others the field number. It is judged before what stands behind it.
+-- The low three bits of a tag are the wire type, the others the field number. It is judged before what stands behind it.
+unfoldable pub tagged : ℕ → List ℕ → Taken Field
+tagged tag l = cond (isNumber (tag / 8)) (content (tag % 8) (tag / 8) l) (fault badTag)
+
+-- A tag, which is a number, and what stands behind it.
 unfoldable pub field : List ℕ → Taken Field
-field l = after (number l) (λ tag rest. cond (isNumber (tag / 8)) (content (tag % 8) (tag / 8) rest) (fault badTag))
+field l = after (number l) tagged

@@ -10,7 +10,7 @@ use lib.ListN.{length, take, drop, length-append, length-drop}
 use lib.Seq.{drop-drop, take-append-le, drop-append-le}
 use borrow.Author.Tests.{leb-true, le-leb}
 use Rattle.wire.specs.Numbers.{Fault, Taken, taken, fault, cutShort, tooLarge, badTag, after, numberIn, number}
-use Rattle.wire.specs.Fields.{Field, varint, fixed, bytes, part, content, isNumber, field}
+use Rattle.wire.specs.Fields.{Field, varint, fixed, bytes, part, content, isNumber, tagged, field}
 
 pub no-fault : {A : Type 0} {why : Fault} {a : A} {rest : List ℕ} → fault why ≡ taken a rest → ⊥
 no-fault e = let z : _≡_ {A = ℕ} 0 1 = cc in omega arith
@@ -124,21 +124,22 @@ reads-content wire n =
     (reads-either (eqb wire 2) (reads-after reads-number (λ size. reads-after (reads-part size) (λ held. reads-nothing (bytes n held))))
     (reads-either (eqb wire 5) (reads-after (reads-part 4) (λ skipped. reads-nothing (fixed n))) (reads-fault badTag))))
 
-tag-then : (tag : ℕ) → Reader (λ rest. cond (isNumber (tag / 8)) (content (tag % 8) (tag / 8) rest) (fault badTag))
-tag-then tag = reads-either (isNumber (tag / 8)) (reads-content (tag % 8) (tag / 8)) (reads-fault badTag)
+reads-tagged : (tag : ℕ) → Reader (tagged tag)
+unfolding tagged
+reads-tagged tag = reads-either (isNumber (tag / 8)) (reads-content (tag % 8) (tag / 8)) (reads-fault badTag)
 
 pub reads-field : Reader field
 unfolding field
-reads-field = reads-after reads-number tag-then
+reads-field = reads-after reads-number reads-tagged
 
 pub field-shorter : (l : List ℕ) (f : Field) (rest : List ℕ) → field l ≡ taken f rest → length rest < length l
 unfolding field
 field-shorter l f rest e = go (number l) refl e
   where
-    go : (t : Taken ℕ) → number l ≡ t → after t (λ tag rest. cond (isNumber (tag / 8)) (content (tag % 8) (tag / 8) rest) (fault badTag)) ≡ taken f rest → length rest < length l
+    go : (t : Taken ℕ) → number l ≡ t → after t tagged ≡ taken f rest → length rest < length l
     go (taken tag mid) e f′ =
         let less = number-shorter l tag mid e in
-        let p = tag-then tag .behind mid f rest f′ in
+        let p = reads-tagged tag .behind mid f rest f′ in
         let n = length-drop (p .used) mid in
         let m = ap length (p .same) in
         omega arith

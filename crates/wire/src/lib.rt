@@ -4,7 +4,7 @@ ghost use Prim.Native.Nat.{_*_, _%_, _^_, _<_, _≤_};
 ghost use lib.ListN.{length, drop};
 ghost use Rattle.wire.specs.Groups.{joined};
 ghost use Rattle.wire.specs.Places.{noNumber, numberAt, noField, foundField, fieldAt};
-ghost use Rattle.wire.specs.Fields.{asVarint, asFixed, asBytes, content, partAs};
+ghost use Rattle.wire.specs.Fields.{asVarint, asFixed, partAs, asBytes, content, tagged};
 
 // Nothing is wrong.
 pub const READ: u8 = 0;
@@ -173,4 +173,43 @@ fn read_bytes(message: &[u8], at: usize, number: u64) -> Field
         return read_part(message, size.next, number, size.value);
     }
     no_field(size.code)
+}
+
+fn read_content(message: &[u8], at: usize, wire: u64, number: u64) -> Field
+    requires { ⌜ at ≤ length (now message) ⌝ }
+    ensures { λ r. ⌜ r ≡ foundField (now (message .entry)) (content wire number (drop at (now (message .entry)))) ⌝ }
+{
+    match wire {
+        0 => read_varint(message, at, number),
+        1 => skip_fixed(message, at, number, 8),
+        2 => read_bytes(message, at, number),
+        5 => skip_fixed(message, at, number, 4),
+        _ => no_field(BAD_TAG),
+    }
+}
+
+// The field whose tag stands before the place.
+fn read_tagged(message: &[u8], at: usize, tag: u64) -> Field
+    requires { ⌜ at ≤ length (now message) ⌝ }
+    ensures { λ r. ⌜ r ≡ foundField (now (message .entry)) (tagged tag (drop at (now (message .entry)))) ⌝ }
+{
+    let number = tag >> 3;
+    if number < 1 {
+        return no_field(BAD_TAG);
+    }
+    if LAST_NUMBER < number {
+        return no_field(BAD_TAG);
+    }
+    read_content(message, at, tag & 7, number)
+}
+
+// The field at a place.
+pub fn read_field(message: &[u8], at: usize) -> Field
+    ensures { λ r. ⌜ r ≡ fieldAt (now (message .entry)) at ⌝ }
+{
+    let tag = read_number(message, at);
+    if tag.code == READ {
+        return read_tagged(message, tag.next, tag.value);
+    }
+    no_field(tag.code)
 }
