@@ -6,3 +6,4 @@ pub mod Groups
 pub mod Joining
 pub mod Readers
 pub mod Found
+pub mod Folding

@@ -14,6 +14,9 @@ abbrev pub andThen : {A B : Type 0} → Reading A → (A → Reading B) → Read
 andThen (whole a) next = next a
 andThen (broken why) next = broken why
 
+abbrev pub mapped : {A B : Type 0} → (A → B) → Reading A → Reading B
+mapped h r = andThen r (λ a. whole (h a))
+
 -- `took f a`: what the field f makes of what the fields before it have given.
 module _ {A : Type 0} (took : Field → A → Reading A) where
   abbrev pub onward : Taken Field → A → (A → List ℕ → Reading A) → Reading A
