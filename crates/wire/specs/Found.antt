@@ -1,18 +1,18 @@
 -- What the code's structs say of what stands at a place. Assumes nothing.
-use mathlib.Core.Path.{_≡_, refl, sym, ap, ap₂, _∙_}
+use mathlib.Core.Path.{_≡_, refl, sym, ap, ap₂, subst, _∙_}
 use mathlib.Core.Logic.{_≢_}
 use mathlib.Core.List.{List}
 use Prim.Native.Nat.{ℕ, _+_, _-_, _<_, _≤_}
 use native.Mathlib.Omega.{arith}
-use lib.ListN.{length, take, drop, length-drop}
-use lib.Seq.{drop-drop, length-take-le}
+use lib.ListN.{length, take, drop, length-append, length-drop}
+use lib.Seq.{drop-drop, length-take-le, take-append-seam}
 use borrow.Author.Tests.{le-leb, lt-leb}
 use Rattle.wire.specs.Numbers.{Fault, cutShort, tooLarge, badTag, codeOf, Taken, taken, fault, after, number}
 use Rattle.wire.specs.Fields as Fields
 use Rattle.wire.specs.Fields.{varint, fixed, bytes, part, asVarint, asFixed, partAs, field}
-use Rattle.wire.specs.Places.{placeOf, foundNumber, numberAt, noField, standing, foundField, fieldAt}
+use Rattle.wire.specs.Places.{placeOf, foundNumber, numberAt, noField, standing, foundField, fieldAt, fieldOf}
 use Rattle.wire.specs.Joining.{place-drop}
-use Rattle.wire.specs.Readers.{Behind, reads-number, number-shorter, reads-field, field-shorter}
+use Rattle.wire.specs.Readers.{Behind, reads-number, number-shorter, reads-field, field-shorter, holds-field}
 use Rattle.wire.specs.declared.Number.{Number}
 use Rattle.wire.specs.declared.Field.{Field}
 
@@ -105,3 +105,75 @@ module _ (message : List ℕ) (at n size : ℕ) (inside : at ≤ length message)
   pub part-short : length message - at < size → (next : List ℕ → List ℕ → Taken Fields.Field) → noField 13 ≡ foundField message (after (part size (drop at message)) next)
   unfolding part
   part-short h next = let n = length-drop at message in simp (lt-leb size (length (drop at message)) (omega arith))
+
+-- ---- the field at a place
+
+pub record FoundField (message : List ℕ) (at : ℕ) (r : Field) : Type 0 where
+  pub stands : field (drop at message) ≡ taken (fieldOf message r) (drop (r .next) message)
+  pub inside : r .next ≤ length message
+  pub beyond : at < r .next
+  pub ordered : r .start ≤ r .next
+
+pub record NoField (message : List ℕ) (at : ℕ) (r : Field) : Type 0 where
+  pub why : Fault
+  pub stands : field (drop at message) ≡ fault why
+  pub code : codeOf why ≡ r .code
+
+stood : (message : List ℕ) (at : ℕ) (f : Fields.Field) (rest : List ℕ) → field (drop at message) ≡ taken f rest → fieldOf message (standing f (placeOf message rest)) ≡ f
+unfolding fieldOf
+stood message at (varint n value) rest e = refl
+stood message at (fixed n) rest e = refl
+stood message at (bytes n held) rest e =
+    let b = holds-field .before (drop at message) n held rest e in
+    let inside = b .inside in
+    let size = length-append held rest in
+    let cut = length-drop at message in
+    let left = length-drop (b .used) (drop at message) in
+    let long = ap length (b .same) in
+    let less = field-shorter (drop at message) (bytes n held) rest e in
+    let start : placeOf message rest - length held ≡ at + b .used = omega arith in
+    let width : placeOf message rest - (at + b .used) ≡ length held = omega arith in
+    ap (bytes n) (rw (start, width, ← drop-drop (b .used) at message, ← b .same) (take-append-seam held rest))
+
+module _ (message : List ℕ) (at : ℕ) (r : Field) (is : r ≡ fieldAt message at) where
+  pub found-field : r .code ≡ 0 → FoundField message at r
+  unfolding fieldAt
+  found-field zero = go (field (drop at message)) refl
+    where
+      ordered-in : (f : Fields.Field) (next : ℕ) → standing f next .start ≤ standing f next .next
+      ordered-in (varint n value) next = omega arith
+      ordered-in (fixed n) next = omega arith
+      ordered-in (bytes n held) next = omega arith
+
+      next-in : (f : Fields.Field) (next : ℕ) → standing f next .next ≡ next
+      next-in (varint n value) next = refl
+      next-in (fixed n) next = refl
+      next-in (bytes n held) next = refl
+
+      go : (t : Taken Fields.Field) → field (drop at message) ≡ t → FoundField message at r
+      go (taken f rest) e =
+          let same : r ≡ standing f (placeOf message rest) = is ∙ ap (foundField message) e in
+          let p = placed message at rest (reads-field .behind _ f rest e) (field-shorter _ f rest e) in
+          let k = next-in f (placeOf message rest) in
+          let inside = p .1 in
+          let beyond = p .2 in
+          subst (FoundField message at) (sym same) (record {
+            stands = e ∙ ap₂ taken (sym (stood message at f rest e)) (p .0 ∙ ap (λ (place : ℕ). drop place message) (sym k));
+            inside = omega arith;
+            beyond = omega arith;
+            ordered = ordered-in f (placeOf message rest);
+          })
+      go (fault why) e = absurd (some-code why (sym (ap (λ (x : Field). x .code) (is ∙ ap (foundField message) e)) ∙ zero))
+
+  pub no-field : r .code ≢ 0 → NoField message at r
+  unfolding fieldAt
+  no-field some = go (field (drop at message)) refl
+    where
+      code-in : (f : Fields.Field) (next : ℕ) → standing f next .code ≡ 0
+      code-in (varint n value) next = refl
+      code-in (fixed n) next = refl
+      code-in (bytes n held) next = refl
+
+      go : (t : Taken Fields.Field) → field (drop at message) ≡ t → NoField message at r
+      go (taken f rest) e = absurd (some (ap (λ (x : Field). x .code) (is ∙ ap (foundField message) e) ∙ code-in f (placeOf message rest)))
+      go (fault why) e = record { why = why; stands = e; code = sym (ap (λ (x : Field). x .code) (is ∙ ap (foundField message) e)) }

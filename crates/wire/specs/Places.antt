@@ -1,7 +1,9 @@
 -- What stands at a place of a message, as the code's structs have it.
+use mathlib.Core.Bool.{cond}
 use mathlib.Core.List.{List}
 use Prim.Native.Nat.{ℕ, _-_}
-use lib.ListN.{length, drop}
+use lib.Dec.{eqb}
+use lib.ListN.{length, take, drop}
 use Rattle.wire.specs.Numbers.{Taken, taken, fault, codeOf, number}
 use Rattle.wire.specs.Fields as Fields
 use Rattle.wire.specs.Fields.{varint, fixed, bytes, field}
@@ -41,3 +43,10 @@ foundField message (fault why) = noField (codeOf why)
 
 unfoldable pub fieldAt : List ℕ → ℕ → Field
 fieldAt message at = foundField message (field (drop at message))
+
+-- The field of the wire format that such a struct stands for.
+unfoldable pub fieldOf : List ℕ → Field → Fields.Field
+fieldOf message r =
+    cond (eqb (r .kind) 0) (varint (r .number) (r .value))
+    (cond (eqb (r .kind) 1) (fixed (r .number))
+    (bytes (r .number) (take (r .next - r .start) (drop (r .start) message))))

@@ -6,11 +6,11 @@ use Prim.Native.Nat.{ℕ, zero, suc, _+_, _*_, _%_, _/_, _<_, _≤_}
 use native.Mathlib.Nat.{zero-add, suc-add}
 use native.Mathlib.Omega.{arith}
 use lib.Dec.{leb, ltb, eqb}
-use lib.ListN.{length, take, drop, length-append, length-drop}
+use lib.ListN.{length, take, drop, length-append, length-drop, take-append-drop}
 use lib.Seq.{drop-drop, take-append-le, drop-append-le}
 use borrow.Author.Tests.{leb-true, le-leb}
 use Rattle.wire.specs.Numbers.{Fault, Taken, taken, fault, cutShort, tooLarge, badTag, after, numberIn, number}
-use Rattle.wire.specs.Fields.{Field, varint, fixed, bytes, part, content, isNumber, tagged, field}
+use Rattle.wire.specs.Fields.{Field, varint, fixed, bytes, part, partAs, content, isNumber, tagged, field}
 
 pub no-fault : {A : Type 0} {why : Fault} {a : A} {rest : List ℕ} → fault why ≡ taken a rest → ⊥
 no-fault e = let z : _≡_ {A = ℕ} 0 1 = cc in omega arith
@@ -144,3 +144,56 @@ field-shorter l f rest e = go (number l) refl e
         let m = ap length (p .same) in
         omega arith
     go (fault why) e f′ = absurd (no-fault f′)
+
+-- ---- the bytes that a field holds stand right before those behind it
+
+pub record Holding (R : List ℕ → Taken Field) : Type 0 where
+  pub before : (l : List ℕ) (n : ℕ) (held rest : List ℕ) → R l ≡ taken (bytes n held) rest → Behind l (held ++ rest)
+
+holds-either : {R S : List ℕ → Taken Field} (b : Bool) → Holding R → Holding S → Holding (λ l. cond b (R l) (S l))
+holds-either true r s = r
+holds-either false r s = s
+
+holds-fault : (why : Fault) → Holding (λ l. fault why)
+holds-fault why = record { before = λ l n held rest e. absurd (no-fault e) }
+
+holds-varint : (n value : ℕ) → Holding (taken (varint n value))
+holds-varint n value = record { before = λ l k held rest e. let z : _≡_ {A = ℕ} 0 1 = cc in absurd (omega arith) }
+
+holds-fixed : (n : ℕ) → Holding (taken (fixed n))
+holds-fixed n = record { before = λ l k held rest e. let z : _≡_ {A = ℕ} 0 1 = cc in absurd (omega arith) }
+
+holds-after : {A : Type 0} {R : List ℕ → Taken A} {S : A → List ℕ → Taken Field} → Reader R → ((a : A) → Holding (S a)) → Holding (λ l. after (R l) S)
+holds-after {A} {R} {S} r s = record { before = λ l n held rest e. go l n held rest (R l) refl e }
+  where
+    go : (l : List ℕ) (n : ℕ) (held rest : List ℕ) (t : Taken A) → R l ≡ t → after t S ≡ taken (bytes n held) rest → Behind l (held ++ rest)
+    go l n held rest (taken a mid) e f = behind-then (r .behind l a mid e) (s a .before mid n held rest f)
+    go l n held rest (fault why) e f = absurd (no-fault f)
+
+holds-part : (n size : ℕ) → Holding (partAs n size)
+unfolding part
+holds-part n size = record { before = λ l k held rest e. go l k held rest (leb size (length l)) e }
+  where
+    go : (l : List ℕ) (k : ℕ) (held rest : List ℕ) (b : Bool) → after (cond b (taken (take size l) (drop size l)) (fault cutShort)) (λ held rest. taken (bytes n held) rest) ≡ taken (bytes k held) rest
+        → Behind l (held ++ rest)
+    go l k held rest true e =
+        let front : take size l ≡ held = cc in
+        let back : drop size l ≡ rest = cc in
+        record { used = 0; inside = omega arith; same = rw (← front, ← back) (take-append-drop size l) }
+    go l k held rest false e = absurd (no-fault e)
+
+holds-content : (wire n : ℕ) → Holding (content wire n)
+unfolding content
+holds-content wire n =
+    holds-either (eqb wire 0) (holds-after reads-number (holds-varint n))
+    (holds-either (eqb wire 1) (holds-after (reads-part 8) (λ skipped. holds-fixed n))
+    (holds-either (eqb wire 2) (holds-after reads-number (holds-part n))
+    (holds-either (eqb wire 5) (holds-after (reads-part 4) (λ skipped. holds-fixed n)) (holds-fault badTag))))
+
+holds-tagged : (tag : ℕ) → Holding (tagged tag)
+unfolding tagged
+holds-tagged tag = holds-either (isNumber (tag / 8)) (holds-content (tag % 8) (tag / 8)) (holds-fault badTag)
+
+pub holds-field : Holding field
+unfolding field
+holds-field = holds-after reads-number holds-tagged
