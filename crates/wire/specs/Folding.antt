@@ -110,3 +110,13 @@ module _ {A B : Type 0} (took : Field → A → Reading A) (see : Field → B �
               ∙ rest-of rest (field-shorter (c ∷ l) f rest h) (took f a) (see f (view a)) (each f a)
               ∙ sym (message-more see (view a) (c ∷ l) f rest h)
           front (fault why) h = ap (mapped view) (message-fault took a (c ∷ l) why (omega arith) h) ∙ sym (message-fault see (view a) (c ∷ l) why (omega arith) h)
+
+-- ---- a field that is skipped, wherever it stands, changes nothing
+
+module _ {A : Type 0} (took : Field → A → Reading A) (f : Field) (skipped : (a : A) → took f a ≡ whole a) where
+  pub message-skips : (x y z : List ℕ) (a b : A) → message took a x ≡ whole b → field y ≡ taken f [] → message took a (x ++ (y ++ z)) ≡ message took a (x ++ z)
+  message-skips x y z a b front e =
+      message-append took x (y ++ z) a b front
+      ∙ message-more took b (y ++ z) f z (reads-field .longer y z f [] e)
+      ∙ ap (λ (r : Reading A). andThen r (λ s. message took s z)) (skipped b)
+      ∙ sym (message-append took x z a b front)
