@@ -1,3 +1,5 @@
 pub mod Update
 pub mod Merge
 pub mod Merging
+pub mod Raw
+pub mod Seeing

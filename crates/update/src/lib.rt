@@ -1,1 +1,82 @@
-// Reading MasterArbitrationUpdate.
+// Reads MasterArbitrationUpdate of p4runtime.proto, release 1.0.0, in protobuf's wire format.
+ghost use mathlib.Core.Path.{_≡_};
+ghost use Prim.Native.Nat.{_≤_};
+ghost use lib.ListN.{length};
+ghost use Rattle.wire.specs.Messages.{message, mapped};
+ghost use Rattle.wire.specs.Places.{fieldOf};
+ghost use Rattle.update.specs.Update.{reading};
+ghost use Rattle.update.specs.Raw.{lastAt, seeScalar, seeTwo, pairOf, refusedRaw, settled, rawOf, seeRole, seeElection, seeStatus, seeBytes, see};
+use wire::Field;
+
+const DEVICE_ID: u64 = 1;
+const ROLE: u64 = 2;
+const ELECTION_ID: u64 = 3;
+const STATUS: u64 = 4;
+
+// ---- embedded messages
+
+// The numbers of fields 1 and 2. Both are 0 beside a fault.
+pub struct Pair {
+    pub code: u8,
+    pub first: u64,
+    pub second: u64,
+}
+
+// What a message has said so far: of each embedded message whether it is present, and the last of each scalar, 0 if there is none. `error` is the status
+// code as it stands on the wire. All is 0 beside a fault.
+pub struct Raw {
+    pub code: u8,
+    pub device: u64,
+    pub role: bool,
+    pub id: u64,
+    pub election: bool,
+    pub high: u64,
+    pub low: u64,
+    pub status: bool,
+    pub error: u64,
+}
+
+// The last of a scalar: the field's, if it is that scalar.
+fn last(field: Field, number: u64, old: u64) -> u64
+    ensures { λ r. ⌜ r ≡ lastAt field number old ⌝ }
+{
+    if field.kind == wire::VARINT {
+        if field.number == number {
+            return field.value;
+        }
+    }
+    old
+}
+
+fn no_pair(code: u8) -> Pair
+    ensures { λ r. ⌜ r ≡ record { code = code; first = 0; second = 0 } ⌝ }
+{
+    Pair {
+        code: code,
+        first: 0,
+        second: 0,
+    }
+}
+
+// An embedded message, read on top of what an earlier one gave. Its other fields are skipped.
+fn read_pair(part: &[u8], first: u64, second: u64) -> Pair
+    ensures { λ r. ⌜ r ≡ pairOf (message seeTwo (record { first = first; second = second }) (now (part .entry))) ⌝ }
+{
+    let mut a = first;
+    let mut b = second;
+    let mut at = 0;
+    while at < part.len() {
+        let field = wire::read_field(part, at);
+        if field.code != wire::READ {
+            return no_pair(field.code);
+        }
+        a = last(field, 1, a);
+        b = last(field, 2, b);
+        at = field.next;
+    }
+    Pair {
+        code: wire::READ,
+        first: a,
+        second: b,
+    }
+}

@@ -7,3 +7,4 @@ pub mod Joining
 pub mod Readers
 pub mod Found
 pub mod Folding
+pub mod Walking
