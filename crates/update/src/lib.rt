@@ -80,3 +80,61 @@ fn read_pair(part: &[u8], first: u64, second: u64) -> Pair
         second: b,
     }
 }
+
+// ---- the message
+
+fn refused(code: u8) -> Raw
+    ensures { λ r. ⌜ r ≡ refusedRaw code ⌝ }
+{
+    Raw {
+        code: code,
+        device: 0,
+        role: false,
+        id: 0,
+        election: false,
+        high: 0,
+        low: 0,
+        status: false,
+        error: 0,
+    }
+}
+
+fn take_role(part: &[u8], u: Raw) -> Raw
+    ensures { λ r. ⌜ r ≡ settled (seeRole (now (part .entry)) u) ⌝ }
+{
+    let read = read_pair(part, u.id, 0);
+    if read.code == wire::READ {
+        let mut next = u;
+        next.role = true;
+        next.id = read.first;
+        return next;
+    }
+    refused(read.code)
+}
+
+fn take_election(part: &[u8], u: Raw) -> Raw
+    ensures { λ r. ⌜ r ≡ settled (seeElection (now (part .entry)) u) ⌝ }
+{
+    let read = read_pair(part, u.high, u.low);
+    if read.code == wire::READ {
+        let mut next = u;
+        next.election = true;
+        next.high = read.first;
+        next.low = read.second;
+        return next;
+    }
+    refused(read.code)
+}
+
+fn take_status(part: &[u8], u: Raw) -> Raw
+    ensures { λ r. ⌜ r ≡ settled (seeStatus (now (part .entry)) u) ⌝ }
+{
+    let read = read_pair(part, u.error, 0);
+    if read.code == wire::READ {
+        let mut next = u;
+        next.status = true;
+        next.error = read.first;
+        return next;
+    }
+    refused(read.code)
+}
