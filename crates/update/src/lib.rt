@@ -138,3 +138,53 @@ fn take_status(part: &[u8], u: Raw) -> Raw
     }
     refused(read.code)
 }
+
+// A field that holds bytes: an embedded message, or one to be skipped.
+fn take_bytes(part: &[u8], number: u64, u: Raw) -> Raw
+    ensures { λ r. ⌜ r ≡ settled (seeBytes number (now (part .entry)) u) ⌝ }
+{
+    match number {
+        2 => take_role(part, u),
+        3 => take_election(part, u),
+        4 => take_status(part, u),
+        _ => u,
+    }
+}
+
+// What the field at a place makes of what was known.
+fn take(message: &[u8], field: Field, u: Raw) -> Raw
+    requires { ⌜ (field .start ≤ field .next) × (field .next ≤ length (now message)) ⌝ }
+    ensures { λ r. ⌜ r ≡ settled (see (fieldOf (now (message .entry)) field) u) ⌝ }
+{
+    if field.kind == wire::VARINT {
+        let mut next = u;
+        next.device = last(field, 1, u.device);
+        return next;
+    }
+    if field.kind == wire::FIXED {
+        return u;
+    }
+    let start = field.start;
+    let end = field.next;
+    take_bytes(&message[start..end], field.number, u)
+}
+
+// The whole message, or its first fault from the front.
+pub fn read_raw(message: &[u8]) -> Raw
+    ensures { λ r. ⌜ r ≡ rawOf (reading (now (message .entry))) ⌝ }
+{
+    let mut u = refused(wire::READ);
+    let mut at = 0;
+    while at < message.len() {
+        let field = wire::read_field(message, at);
+        if field.code != wire::READ {
+            return refused(field.code);
+        }
+        u = take(message, field, u);
+        if u.code != wire::READ {
+            return u;
+        }
+        at = field.next;
+    }
+    u
+}
