@@ -3,3 +3,5 @@ pub mod Merge
 pub mod Merging
 pub mod Raw
 pub mod Seeing
+pub mod Arbitration
+pub mod Signed

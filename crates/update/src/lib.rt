@@ -4,6 +4,7 @@ ghost use Prim.Native.Nat.{_≤_};
 ghost use lib.ListN.{length};
 ghost use Rattle.wire.specs.Messages.{message, mapped};
 ghost use Rattle.wire.specs.Places.{fieldOf};
+ghost use Rattle.update.specs.Arbitration.{low32, arbitration};
 ghost use Rattle.update.specs.Update.{reading};
 ghost use Rattle.update.specs.Raw.{lastAt, seeScalar, seeTwo, pairOf, refusedRaw, settled, rawOf, seeRole, seeElection, seeStatus, seeBytes, see};
 use wire::Field;
@@ -187,4 +188,69 @@ pub fn read_raw(message: &[u8]) -> Raw
         at = field.next;
     }
     u
+}
+
+// ---- what is reported
+
+pub struct Role {
+    pub present: bool,
+    pub id: u64,
+}
+
+pub struct ElectionId {
+    pub present: bool,
+    pub high: u64,
+    pub low: u64,
+}
+
+pub struct Status {
+    pub present: bool,
+    pub code: i32,
+}
+
+// What a message says. Absent scalars are 0; beside a refusal all is 0 and nothing is present.
+pub struct Arbitration {
+    pub code: u8,
+    pub device: u64,
+    pub role: Role,
+    pub election: ElectionId,
+    pub status: Status,
+}
+
+// The low 32 bits, signed.
+fn signed(value: u64) -> i32
+    ensures { λ r. ⌜ r ≡ low32 value ⌝ }
+{
+    let bits = value & 0xFFFF_FFFF;
+    if bits < 0x8000_0000 {
+        return bits as i32;
+    }
+    -1 - (0xFFFF_FFFF - bits) as i32
+}
+
+// Reads a message: what it says, or its first fault from the front.
+pub fn read(message: &[u8]) -> Arbitration
+    ensures { λ r. ⌜ r ≡ arbitration (reading (now (message .entry))) ⌝ }
+{
+    let raw = read_raw(message);
+    let role = Role {
+        present: raw.role,
+        id: raw.id,
+    };
+    let election = ElectionId {
+        present: raw.election,
+        high: raw.high,
+        low: raw.low,
+    };
+    let status = Status {
+        present: raw.status,
+        code: signed(raw.error),
+    };
+    Arbitration {
+        code: raw.code,
+        device: raw.device,
+        role: role,
+        election: election,
+        status: status,
+    }
 }
