@@ -57,3 +57,64 @@ fn put_integer_line(buf: &mut [u8], at: usize, word: &[u8], value: u64) -> usize
     let end = put_integer(buf, number, value);
     text::put_word(buf, end, b"\n")
 }
+
+// ---- the fields
+
+fn put_role(buf: &mut [u8], at: usize, read: Raw) -> usize
+    requires { ⌜ Room (now buf) at (roleLines read) ⌝ }
+    ensures { λ r. ⌜ Put (now (buf .entry)) at (roleLines read) (now (buf .exit)) r ⌝ }
+{
+    let next = put_flag_line(buf, at, b"role ", read.role);
+    put_number_line(buf, next, b"role.id ", read.id)
+}
+
+fn put_election(buf: &mut [u8], at: usize, read: Raw) -> usize
+    requires { ⌜ Room (now buf) at (electionLines read) ⌝ }
+    ensures { λ r. ⌜ Put (now (buf .entry)) at (electionLines read) (now (buf .exit)) r ⌝ }
+{
+    let high = put_flag_line(buf, at, b"election_id ", read.election);
+    let low = put_number_line(buf, high, b"election_id.high ", read.high);
+    put_number_line(buf, low, b"election_id.low ", read.low)
+}
+
+fn put_status(buf: &mut [u8], at: usize, read: Raw) -> usize
+    requires { ⌜ Room (now buf) at (statusLines read) ⌝ }
+    ensures { λ r. ⌜ Put (now (buf .entry)) at (statusLines read) (now (buf .exit)) r ⌝ }
+{
+    let next = put_flag_line(buf, at, b"status ", read.status);
+    put_integer_line(buf, next, b"status.code ", read.error)
+}
+
+fn put_fields(buf: &mut [u8], read: Raw) -> usize
+    requires { ⌜ Room (now buf) 0 (fieldLines read) ⌝ }
+    ensures { λ r. ⌜ Put (now (buf .entry)) 0 (fieldLines read) (now (buf .exit)) r ⌝ }
+{
+    let role = put_number_line(buf, 0, b"device_id ", read.device);
+    let election = put_role(buf, role, read);
+    let status = put_election(buf, election, read);
+    put_status(buf, status, read)
+}
+
+// ---- the text
+
+// The most bytes that the program reads.
+pub const LONGEST: usize = 65536;
+
+// Room for eight lines, each with its longest number.
+pub const LONGEST_TEXT: usize = 207;
+
+const BAD_LENGTH: u32 = 8;
+
+// Puts what the program prints for a message at the front of the buffer. Returns how many bytes that is.
+pub fn printout(message: &[u8], buf: &mut [u8; LONGEST_TEXT]) -> usize
+    ensures { λ r. ⌜ Put (now (buf .entry)) 0 (printout (now (message .entry))) (now (buf .exit)) r × (r ≤ length (now (buf .exit))) ⌝ }
+{
+    if message.len() <= LONGEST {
+        let read = update::read_raw(message);
+        if read.code == wire::READ {
+            return put_fields(buf, read);
+        }
+        return text::put_refused_line(buf, 0, read.code as u32);
+    }
+    text::put_refused_line(buf, 0, BAD_LENGTH)
+}
