@@ -9,11 +9,6 @@ ghost use Rattle.update.specs.Update.{reading};
 ghost use Rattle.update.specs.Raw.{lastAt, seeScalar, seeTwo, pairOf, refusedRaw, settled, rawOf, seeRole, seeElection, seeStatus, seeBytes, see};
 use wire::Field;
 
-const DEVICE_ID: u64 = 1;
-const ROLE: u64 = 2;
-const ELECTION_ID: u64 = 3;
-const STATUS: u64 = 4;
-
 // ---- embedded messages
 
 // The numbers of fields 1 and 2. Both are 0 beside a fault.
@@ -140,7 +135,7 @@ fn take_status(part: &[u8], u: Raw) -> Raw
     refused(read.code)
 }
 
-// A field that holds bytes: an embedded message, or one to be skipped.
+// A field that holds bytes: role, election_id or status, or one to be skipped.
 fn take_bytes(part: &[u8], number: u64, u: Raw) -> Raw
     ensures { λ r. ⌜ r ≡ settled (seeBytes number (now (part .entry)) u) ⌝ }
 {
@@ -152,7 +147,7 @@ fn take_bytes(part: &[u8], number: u64, u: Raw) -> Raw
     }
 }
 
-// What the field at a place makes of what was known.
+// What the field at a place makes of what was known. The one number is device_id.
 fn take(message: &[u8], field: Field, u: Raw) -> Raw
     requires { ⌜ (field .start ≤ field .next) × (field .next ≤ length (now message)) ⌝ }
     ensures { λ r. ⌜ r ≡ settled (see (fieldOf (now (message .entry)) field) u) ⌝ }

@@ -82,7 +82,9 @@ pub fn read_number(message: &[u8], at: usize) -> Number
 
 // What a field holds: a number, four or eight bytes, or as many bytes as its length says.
 pub const VARINT: u8 = 0;
+
 pub const FIXED: u8 = 1;
+
 pub const BYTES: u8 = 2;
 
 const LAST_NUMBER: u64 = 536870911;
