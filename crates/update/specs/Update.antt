@@ -39,6 +39,10 @@ noStatus = record { code = none }
 abbrev pub nothing : Update
 nothing = record { device = none; role = none; election = none; status = none }
 
+abbrev pub orElse : {A : Type 0} → A → Option A → A
+orElse default none = default
+orElse default (some a) = a
+
 -- The scalar of field number n: the last one wins, and a field of another number or wire type is skipped.
 abbrev pub scalar : ℕ → Field → Option ℕ → Option ℕ
 scalar n (varint k value) old = cond (eqb k n) (some value) old
@@ -53,10 +57,6 @@ inElection f e = record { high = scalar 1 f (e .high); low = scalar 2 f (e .low)
 
 abbrev pub inStatus : Field → Status → Status
 inStatus f s = record { code = scalar 1 f (s .code) }
-
-abbrev pub orElse : {A : Type 0} → A → Option A → A
-orElse default none = default
-orElse default (some a) = a
 
 -- An embedded message is read on top of what an earlier one gave, and is present from then on.
 abbrev pub embedded : {A : Type 0} → (Field → A → A) → A → Option A → List ℕ → Reading (Option A)
