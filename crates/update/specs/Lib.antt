@@ -5,3 +5,4 @@ pub mod Raw
 pub mod Seeing
 pub mod Arbitration
 pub mod Signed
+pub mod Sample

@@ -8,3 +8,4 @@ pub mod Readers
 pub mod Found
 pub mod Folding
 pub mod Walking
+pub mod Sample
