@@ -1,5 +1,5 @@
 -- Bytes of a number, one after another. Assumes nothing.
-use mathlib.Core.Path.{_≡_, refl, ap, _∙_}
+use mathlib.Core.Path.{_≡_, refl, ap}
 use mathlib.Core.List.{List, [], _∷_, _++_}
 use Prim.Native.Nat.{ℕ, zero, suc, _+_, _/_, _%_, _<_, _≤_}
 use native.Mathlib.Numerals.{add-one}
@@ -7,8 +7,7 @@ use native.Mathlib.Omega.{arith}
 use lib.ListN.{length, set}
 use Rattle.text.specs.Put.{Room, Put}
 use Rattle.text.specs.Puts.{put-none, put-then, put-length}
-use Rattle.packed.specs.Bytes.{little, fieldBytes}
-use Rattle.update.specs.declared.Raw.{Raw}
+use Rattle.packed.specs.Bytes.{little}
 
 pub little-length : (n v : ℕ) → length (little n v) ≡ n
 unfolding little

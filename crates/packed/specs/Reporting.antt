@@ -9,11 +9,11 @@ use lib.Seq.{sets-eq}
 use borrow.Author.Tests.{le-leb, lt-leb}
 use Rattle.wire.specs.Messages.{Reading, whole, broken}
 use Rattle.wire.specs.Found.{some-code}
-use Rattle.text.specs.Put.{Room, Put}
+use Rattle.text.specs.Put.{Put}
 use Rattle.update.specs.Update.{Update, reading}
-use Rattle.update.specs.Raw.{seen, rawOf}
+use Rattle.update.specs.Raw.{rawOf}
 use Rattle.update.specs.declared.Raw.{Raw}
-use Rattle.packed.specs.Bytes.{little, numberBytes, flagBytes, fieldBytes, fieldLength, bufferShort, Reported, reportedAs, reported}
+use Rattle.packed.specs.Bytes.{fieldBytes, fieldLength, bufferShort, reportedAs, reported}
 use Rattle.packed.specs.Little.{little-length}
 
 pub field-bytes-length : (r : Raw) → length (fieldBytes r) ≡ fieldLength

@@ -1,6 +1,6 @@
 -- The low 32 bits in decimal, as the code puts them. Assumes nothing.
-use mathlib.Core.Path.{_≡_, refl, sym, ap, _∙_}
-use mathlib.Core.List.{List, [], _∷_, _++_}
+use mathlib.Core.Path.{_≡_, ap}
+use mathlib.Core.List.{[], _∷_, _++_}
 use Prim.Native.Nat.{ℕ, suc, _-_, _%_, _^_, _<_, _≤_}
 use native.Mathlib.Omega.{arith}
 use lib.Bits.{and-mask}
@@ -8,7 +8,7 @@ use borrow.Author.Tests.{lt-ltb, le-ltb}
 use Rattle.text.specs.Decimal.{decimal}
 use Rattle.update.specs.Arbitration as Arbitration
 use Rattle.update.specs.Arbitration.{low32}
-use Rattle.update.specs.Signed.{bitsOf, bits-below}
+use Rattle.update.specs.Signed.{bitsOf}
 use Rattle.printout.specs.Printout.{integer}
 
 pub integer-positive : (v : ℕ) → bitsOf v < 2147483648 → integer (low32 v) ≡ decimal (bitsOf v)

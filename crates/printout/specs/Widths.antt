@@ -2,7 +2,7 @@
 use mathlib.Core.Path.{_≡_, refl, sym, ap, _∙_}
 use mathlib.Core.Logic.{_≢_}
 use mathlib.Core.Bool.{Bool, true, false}
-use mathlib.Core.List.{List, _++_}
+use mathlib.Core.List.{List}
 use Prim.Native.Nat.{ℕ, _-_, _^_, _<_, _≤_}
 use native.Mathlib.Omega.{arith}
 use lib.ListN.{length, length-append}
@@ -15,7 +15,7 @@ use Rattle.text.specs.Digits.{width}
 use Rattle.update.specs.Update.{Update, reading}
 use Rattle.update.specs.Raw.{rawOf}
 use Rattle.update.specs.Arbitration.{low32}
-use Rattle.update.specs.Signed.{bitsOf, bits-below}
+use Rattle.update.specs.Signed.{bitsOf}
 use Rattle.update.specs.declared.Raw.{Raw}
 use Rattle.printout.specs.Printout.{flagWord, integer, roleLines, electionLines, statusLines, fieldLines, textOf, longestMessage, badLength, printout}
 use Rattle.printout.specs.Integers.{integer-positive, integer-negative}

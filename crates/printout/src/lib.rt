@@ -1,5 +1,4 @@
 // What the program `arbitration` prints for a message, as one text.
-ghost use mathlib.Core.Path.{_≡_};
 ghost use Prim.Native.Nat.{_≤_};
 ghost use lib.ListN.{length};
 ghost use Rattle.text.specs.Put.{Room, Put};

@@ -1,15 +1,15 @@
 -- Messages in bytes, and what they say. Assumes nothing.
 use mathlib.Core.Path.{_≡_, refl}
-use mathlib.Core.List.{List, [], _∷_}
-use mathlib.Core.Option.{Option, none, some}
-use Prim.Native.Nat.{ℕ, _-_, _^_}
+use mathlib.Core.List.{[], _∷_}
+use mathlib.Core.Option.{none, some}
+use Prim.Native.Nat.{_-_, _^_}
 use lib.IntN.{negsuc}
 use Rattle.wire.specs.Numbers as Numbers
-use Rattle.wire.specs.Numbers.{cutShort, badTag}
+use Rattle.wire.specs.Numbers.{cutShort}
 use Rattle.wire.specs.Fields as Fields
 use Rattle.wire.specs.Messages as Messages
 use Rattle.wire.specs.Messages.{whole, broken}
-use Rattle.update.specs.Update.{Update, nothing, reading}
+use Rattle.update.specs.Update.{nothing, reading}
 use Rattle.update.specs.Arbitration.{signed, low32}
 
 -- No bytes are a message that says nothing.

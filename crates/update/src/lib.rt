@@ -2,11 +2,11 @@
 ghost use mathlib.Core.Path.{_≡_};
 ghost use Prim.Native.Nat.{_≤_};
 ghost use lib.ListN.{length};
-ghost use Rattle.wire.specs.Messages.{message, mapped};
+ghost use Rattle.wire.specs.Messages.{message};
 ghost use Rattle.wire.specs.Places.{fieldOf};
 ghost use Rattle.update.specs.Arbitration.{low32, arbitration};
 ghost use Rattle.update.specs.Update.{reading};
-ghost use Rattle.update.specs.Raw.{lastAt, seeScalar, seeTwo, pairOf, refusedRaw, settled, rawOf, seeRole, seeElection, seeStatus, seeBytes, see};
+ghost use Rattle.update.specs.Raw.{lastAt, seeTwo, pairOf, refusedRaw, settled, rawOf, seeRole, seeElection, seeStatus, seeBytes, see};
 use wire::Field;
 
 // ---- embedded messages

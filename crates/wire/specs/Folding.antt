@@ -1,9 +1,9 @@
 -- A message field by field: from the front, in two parts, and through a view of what is read. Assumes nothing.
-use mathlib.Core.Path.{_≡_, refl, sym, ap, _∙_, subst}
+use mathlib.Core.Path.{_≡_, refl, sym, ap, _∙_}
 use mathlib.Core.List.{List, [], _∷_, _++_}
 use Prim.Native.Nat.{ℕ, zero, suc, _<_, _≤_}
 use native.Mathlib.Omega.{arith}
-use lib.ListN.{length, length-append}
+use lib.ListN.{length}
 use Rattle.wire.specs.Numbers.{Fault, cutShort, Taken, taken, fault, numberIn}
 use Rattle.wire.specs.Fields.{Field, field}
 use Rattle.wire.specs.Messages.{Reading, whole, broken, andThen, mapped, onward, fieldsIn, message}

@@ -1,8 +1,7 @@
 -- Seven bits more above a number, by mask and shift: the law that joins the groups. Assumes nothing.
-use mathlib.Core.Path.{_≡_, refl, sym, ap, _∙_}
+use mathlib.Core.Path.{_≡_}
 use Prim.Native.Nat.{ℕ, _+_, _*_, _-_, _%_, _^_, _<_}
 use native.Mathlib.Nat.{mod-eq-of-lt, mul-comm, add-comm}
-use native.Mathlib.Omega.{arith}
 use lib.Bits.{bitAnd, bitOr, and-mask, or-shifted-r}
 
 -- The number with the low seven bits of a byte above its first `shift` bits.

@@ -1,9 +1,9 @@
 -- A number group by group: what the loop that reads it knows at each byte. Assumes nothing.
 use mathlib.Core.Path.{_≡_, refl, sym, ap, ap₂, _∙_}
 use mathlib.Core.Logic.{_≢_}
-use mathlib.Core.List.{List, [], _∷_}
+use mathlib.Core.List.{List, _∷_}
 use Prim.Native.Nat.{ℕ, zero, suc, _+_, _*_, _%_, _^_, _<_, _≤_}
-use native.Mathlib.Nat.{add-zero, zero-add, one-mul, mul-add, mul-assoc, mul-comm, add-assoc, mod-eq-of-lt, lt-of-lt-of-le}
+use native.Mathlib.Nat.{mul-add, mul-assoc, mul-comm, mod-eq-of-lt, lt-of-lt-of-le}
 use native.Mathlib.Numerals.{add-one}
 use native.Mathlib.Omega.{arith}
 use lib.Pow.{pow-add, pow-mono, shl-lt}
@@ -11,10 +11,9 @@ use lib.Arith.{digits-lt}
 use lib.ListN.{length, getD, drop, length-drop, drop-of-length-le}
 use lib.Seq.{drop-cons}
 use borrow.Author.Tests.{lt-ltb, le-ltb, le-leb, lt-leb}
-use Rattle.wire.specs.Numbers.{Taken, taken, fault, cutShort, tooLarge, codeOf, after, numberIn, number}
+use Rattle.wire.specs.Numbers.{Taken, taken, fault, tooLarge, after, numberIn, number}
 use Rattle.wire.specs.Groups.{joined}
 use Rattle.wire.specs.Places.{placeOf, foundNumber, numberAt}
-use Rattle.wire.specs.declared.Number.{Number}
 
 pub place-drop : (message : List ℕ) (next : ℕ) → next ≤ length message → placeOf message (drop next message) ≡ next
 place-drop message next h = let n = length-drop next message in omega arith

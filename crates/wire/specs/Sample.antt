@@ -1,7 +1,7 @@
 -- Numbers and fields in bytes, as protobuf's page on its encoding has them, and each fault. Assumes nothing.
 use mathlib.Core.Path.{_≡_, refl}
-use mathlib.Core.List.{List, [], _∷_}
-use Prim.Native.Nat.{ℕ, _-_, _^_}
+use mathlib.Core.List.{[], _∷_}
+use Prim.Native.Nat.{_-_, _^_}
 use Rattle.wire.specs.Numbers.{taken, fault, cutShort, tooLarge, badTag, numberIn, number}
 use Rattle.wire.specs.Fields.{varint, fixed, bytes, part, content, tagged, field}
 

@@ -1,6 +1,5 @@
 -- `printout` meets its contract. Assumes nothing.
 use native.Mathlib.Omega.{arith}
-use lib.ListN.{length}
 use borrow.Author.Needs.{needs}
 use Rattle.text.specs.Puts.{put-length}
 use Rattle.text.specs.Widths.{refused-line-width}

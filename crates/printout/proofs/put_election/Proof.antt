@@ -1,5 +1,4 @@
 -- `put_election` meets its contract. Assumes nothing.
-use lib.ListN.{length}
 use borrow.Author.Needs.{needs}
 use Rattle.text.specs.Puts.{put-then, room-first, room-then}
 use Rattle.printout.specs.Printout.{highWord, lowWord, numberLine, electionLines}

@@ -1,5 +1,4 @@
 -- `put_status` meets its contract. Assumes nothing.
-use lib.ListN.{length}
 use borrow.Author.Needs.{needs}
 use Rattle.text.specs.Puts.{put-then, room-first, room-then}
 use Rattle.update.specs.Arbitration.{low32}

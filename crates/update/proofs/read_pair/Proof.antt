@@ -14,7 +14,7 @@ use Rattle.wire.specs.Walking.{Walking, walking-starts, walking-ends, walking-f
 use Rattle.update.specs.Raw.{pairOf}
 use Rattle.update.specs.Seeing.{last-scalar}
 use Rattle.wire.specs.Messages.{whole}
-use Rattle.update.specs.Raw.{Two, seeTwo, pairOf}
+use Rattle.update.specs.Raw.{seeTwo, pairOf}
 use Rattle.wire.specs.Messages.{whole}
 use Rattle.update.proofs.read_pair.Statement.{statement}
 use Rattle.update.proofs.read_pair.Tie as tie

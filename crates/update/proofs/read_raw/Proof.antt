@@ -4,7 +4,7 @@ use Prim.Native.Nat.{_-_}
 use native.Mathlib.Omega.{arith}
 use lib.ListN.{length}
 use borrow.Author.Needs.{needs}
-use Rattle.wire.specs.Messages.{whole, broken, message}
+use Rattle.wire.specs.Messages.{message}
 use Rattle.wire.specs.Places.{fieldOf}
 use Rattle.wire.specs.Found.{found-field, no-field}
 use Rattle.wire.specs.Walking.{Walking, walking-starts, walking-ends, walking-faults, walking-on, walking-breaks}

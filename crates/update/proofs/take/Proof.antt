@@ -3,7 +3,7 @@ use mathlib.Core.Path.{ap, _∙_}
 use Prim.Native.Nat.{_-_}
 use borrow.Author.Needs.{needs}
 use Rattle.wire.specs.Messages.{message}
-use Rattle.update.specs.Raw.{withDevice, see}
+use Rattle.update.specs.Raw.{withDevice}
 use Rattle.update.specs.Seeing.{sees-device, sees-fixed, sees-bytes}
 use Rattle.update.proofs.take.Statement.{statement}
 use Rattle.update.proofs.take.Tie as tie

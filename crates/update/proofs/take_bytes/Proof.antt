@@ -2,7 +2,7 @@
 use Prim.Native.Nat.{_-_}
 use borrow.Author.Needs.{needs}
 use borrow.Author.Tests.{ne-eqb}
-use Rattle.update.specs.Raw.{see, seeBytes}
+use Rattle.update.specs.Raw.{seeBytes}
 use Rattle.update.proofs.take_bytes.Statement.{statement}
 use Rattle.update.proofs.take_bytes.Tie as tie
 

@@ -2,7 +2,7 @@
 use Prim.Native.Nat.{_-_}
 use borrow.Author.Needs.{needs}
 use borrow.Author.Tests.{ne-eqb}
-use Rattle.wire.specs.Fields.{varint, fixed, bytes, content, field}
+use Rattle.wire.specs.Fields.{content}
 use Rattle.wire.proofs.read_content.Statement.{statement}
 use Rattle.wire.proofs.read_content.Tie as tie
 

@@ -1,15 +1,12 @@
-use mathlib.Core.Path.{_≡_, sym, ap, _∙_}
+-- `read_number` meets its contract. Assumes nothing.
+use mathlib.Core.Path.{sym, ap, _∙_}
 use Prim.Native.Nat.{ℕ, _+_, _-_}
-use lib.ListN.{length}
-use Rattle.wire.specs.Joining.{Joining, joining-starts, shift-fits, last-fits, next-fits, cut-off, too-large, last-byte, ends-here, goes-on}
-use borrow.Author.Needs.{needs}
 use native.Mathlib.Omega.{arith}
+use lib.ListN.{length}
+use borrow.Author.Needs.{needs}
+use Rattle.wire.specs.Joining.{Joining, joining-starts, shift-fits, last-fits, next-fits, cut-off, too-large, last-byte, ends-here, goes-on}
 use Rattle.wire.proofs.read_number.Statement.{statement}
 use Rattle.wire.proofs.read_number.Tie as tie
-use Rattle.wire.proofs.read_number.Reads as reads
-use Rattle.wire.proofs.read_number.Lts as lts
-use Rattle.wire.proofs.no_number.Reads as no-number-reads
-use Rattle.wire.proofs.with_group.Reads as with-group-reads
 
 abbrev Inv-loop : tie.InvT-loop
 Inv-loop message at value₀ shift₀ next₀ value shift next = Joining message at value shift next
@@ -17,79 +14,63 @@ Inv-loop message at value₀ shift₀ next₀ value shift next = Joining message
 abbrev μ-loop : tie.MeasureT-loop
 μ-loop message at value₀ shift₀ next₀ value shift next = length message - next
 
--- src/lib.rt:53:5
 loop-holds : tie.Need-loop-holds Inv-loop μ-loop
 loop-holds c = joining-starts _ _
 
--- src/lib.rt:54:20
 shared-slice-read-byte : tie.Need-shared-slice-read-byte Inv-loop μ-loop
 shared-slice-read-byte c = search needs
 
--- src/lib.rt:54:20
 cast-byte : tie.Need-cast-byte Inv-loop μ-loop
 cast-byte c = omega (arith, c .shared-slice-known2 .given (c .before .before .loop .next))
 
--- src/lib.rt:57:17
 no-number-requires : tie.Need-no-number-requires Inv-loop μ-loop
 no-number-requires c κs = search needs
 
--- src/lib.rt:57:17
 returns : tie.Need-returns Inv-loop μ-loop
 returns c =
     let at-loop = c .before .before .before .before .before in
     c .no-number .ensures ∙ sym (too-large (at-loop .loop .inv) (omega arith) (omega arith) (omega arith))
 
--- src/lib.rt:61:24
 with-group-requires : tie.Need-with-group-requires Inv-loop μ-loop
 with-group-requires c κs =
     let j = c .before .before .before .before .loop .inv in
     (j .low, shift-fits j, last-fits j _ (omega arith))
 
--- src/lib.rt:62:23
 add-t13 : tie.Need-add-t13 Inv-loop μ-loop
 add-t13 c = search needs
 
--- src/lib.rt:59:13
 returns-2 : tie.Need-returns-2 Inv-loop μ-loop
 returns-2 c =
     let at-loop = c .before .before .before .before .before in
     ap (λ (v : ℕ). record { code = 0; value = v; next = at-loop .loop .next + 1 }) (c .with-group .ensures) ∙ sym (last-byte (at-loop .loop .inv) (omega arith) (omega arith) (omega arith))
 
--- src/lib.rt:65:9
 with-group-requires-2 : tie.Need-with-group-requires-2 Inv-loop μ-loop
 with-group-requires-2 c κs =
     let j = c .before .before .before .loop .inv in
     (j .low, shift-fits j, next-fits j _ (c .if1 .left))
 
--- src/lib.rt:66:9
 add-next : tie.Need-add-next Inv-loop μ-loop
 add-next c = search needs
 
--- src/lib.rt:68:13
 returns-3 : tie.Need-returns-3 Inv-loop μ-loop
 returns-3 c =
     let at-loop = c .before .before .before .before .before in
     ap (λ (v : ℕ). record { code = 0; value = v; next = at-loop .loop .next + 1 }) (c .before .with-group2 .ensures) ∙ sym (ends-here (at-loop .loop .inv) (omega arith) (c .before .before .if1 .left) (omega arith))
 
--- src/lib.rt:74:9
 add-shift : tie.Need-add-shift Inv-loop μ-loop
 add-shift c = search needs
 
--- src/lib.rt:53:5
 loop-less : tie.Need-loop-less Inv-loop μ-loop
 loop-less c = search needs
 
--- src/lib.rt:53:5
 loop-again : tie.Need-loop-again Inv-loop μ-loop
 loop-again c =
     let at-loop = c .before .before .before .before .before in
     rw (c .before .with-group2 .ensures) (goes-on (at-loop .loop .inv) (omega arith) (c .before .before .if1 .left) (omega arith))
 
--- src/lib.rt:76:5
 no-number-requires-2 : tie.Need-no-number-requires-2 Inv-loop μ-loop
 no-number-requires-2 c κs = search needs
 
--- src/lib.rt:47:1
 returns-4 : tie.Need-returns-4 Inv-loop μ-loop
 returns-4 c = c .no-number2 .ensures ∙ sym (cut-off (c .before .before .loop .inv) (omega arith))
 

@@ -4,7 +4,7 @@ use lib.Bits.{and-mask}
 use borrow.Author.Needs.{needs}
 use borrow.Author.Tests.{lt-leb, le-leb}
 use Rattle.wire.specs.Numbers.{taken}
-use Rattle.wire.specs.Fields.{content, tagged, field}
+use Rattle.wire.specs.Fields.{tagged}
 use Rattle.wire.proofs.read_tagged.Statement.{statement}
 use Rattle.wire.proofs.read_tagged.Tie as tie
 
