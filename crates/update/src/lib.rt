@@ -22,13 +22,13 @@ pub struct Pair {
 // code as it stands on the wire. All is 0 beside a fault.
 pub struct Raw {
     pub code: u8,
-    pub device: u64,
     pub role: bool,
-    pub id: u64,
     pub election: bool,
+    pub status: bool,
+    pub device: u64,
+    pub id: u64,
     pub high: u64,
     pub low: u64,
-    pub status: bool,
     pub error: u64,
 }
 
@@ -84,13 +84,13 @@ fn refused(code: u8) -> Raw
 {
     Raw {
         code: code,
-        device: 0,
         role: false,
-        id: 0,
         election: false,
+        status: false,
+        device: 0,
+        id: 0,
         high: 0,
         low: 0,
-        status: false,
         error: 0,
     }
 }

@@ -123,3 +123,10 @@ module _ {message : List ℕ} {at value shift next : ℕ} (j : Joining message a
             low = joined-low;
             so-far = front (suc (s .0)) (s .1) ∙ simp (le-ltb byte 128 h) (above-more value byte shift (numberIn (s .0) (drop (next + 1) message)));
           }
+
+-- ---- a number of one byte
+
+pub one-byte : (message : List ℕ) (at : ℕ) → at < length message → getD message at 0 < 128 → numberAt message at ≡ record { code = 0; value = getD message at 0; next = at + 1 }
+one-byte message at inside small =
+    let whole : joined 0 (getD message at 0) 0 ≡ getD message at 0 = omega arith in
+    ends-here (joining-starts message at) inside (λ e. omega arith) small ∙ ap (λ (v : ℕ). record { code = 0; value = v; next = at + 1 }) whole

@@ -46,7 +46,7 @@ fn with_group(value: u64, byte: u64, shift: u64) -> u64
 }
 
 // The number at a place, by groups of seven bits. Its tenth byte has room for one bit.
-pub fn read_number(message: &[u8], at: usize) -> Number
+fn read_groups(message: &[u8], at: usize) -> Number
     ensures { λ r. ⌜ r ≡ numberAt (now (message .entry)) at ⌝ }
 {
     let mut value: u64 = 0;
@@ -76,6 +76,23 @@ pub fn read_number(message: &[u8], at: usize) -> Number
         shift += 7;
     }
     no_number(CUT_SHORT)
+}
+
+// The number at a place. Most numbers are of one byte, and need no loop.
+pub fn read_number(message: &[u8], at: usize) -> Number
+    ensures { λ r. ⌜ r ≡ numberAt (now (message .entry)) at ⌝ }
+{
+    if at < message.len() {
+        let byte = message[at] as u64;
+        if byte < 128 {
+            return Number {
+                code: READ,
+                value: byte,
+                next: at + 1,
+            };
+        }
+    }
+    read_groups(message, at)
 }
 
 // ---- fields
