@@ -3,11 +3,16 @@ ghost use mathlib.Core.Path.{_≡_};
 ghost use Prim.Native.Nat.{_≤_};
 ghost use lib.ListN.{length};
 ghost use Rattle.wire.specs.Messages.{message};
-ghost use Rattle.wire.specs.Places.{fieldOf};
+ghost use Rattle.wire.specs.Places.{fieldAt, fieldOf};
 ghost use Rattle.update.specs.Arbitration.{low32, arbitration};
 ghost use Rattle.update.specs.Update.{reading};
 ghost use Rattle.update.specs.Raw.{lastAt, seeTwo, pairOf, refusedRaw, settled, rawOf, seeRole, seeElection, seeStatus, seeBytes, see};
 use wire::Field;
+
+// The tags of fields 1 and 2 that hold a number.
+const NUMBER_1: u64 = 8;
+
+const NUMBER_2: u64 = 16;
 
 // ---- embedded messages
 
@@ -44,6 +49,23 @@ fn last(field: Field, number: u64, old: u64) -> u64
     old
 }
 
+// The field at a place of an embedded message. The two tags that matter there are looked at first.
+fn embedded_field(part: &[u8], at: usize) -> Field
+    ensures { λ r. ⌜ r ≡ fieldAt (now (part .entry)) at ⌝ }
+{
+    let tag = wire::read_number(part, at);
+    if tag.code != wire::READ {
+        return wire::no_field(tag.code);
+    }
+    if tag.value == NUMBER_1 {
+        return wire::read_varint(part, tag.next, 1);
+    }
+    if tag.value == NUMBER_2 {
+        return wire::read_varint(part, tag.next, 2);
+    }
+    wire::read_tagged(part, tag.next, tag.value)
+}
+
 fn no_pair(code: u8) -> Pair
     ensures { λ r. ⌜ r ≡ record { code = code; first = 0; second = 0 } ⌝ }
 {
@@ -62,7 +84,7 @@ fn read_pair(part: &[u8], first: u64, second: u64) -> Pair
     let mut b = second;
     let mut at = 0;
     while at < part.len() {
-        let field = wire::read_field(part, at);
+        let field = embedded_field(part, at);
         if field.code != wire::READ {
             return no_pair(field.code);
         }
@@ -135,6 +157,25 @@ fn take_status(part: &[u8], u: Raw) -> Raw
     refused(read.code)
 }
 
+// The field at a place of the message. The four tags that matter are looked at first.
+fn field_at(message: &[u8], at: usize) -> Field
+    ensures { λ r. ⌜ r ≡ fieldAt (now (message .entry)) at ⌝ }
+{
+    let tag = wire::read_number(message, at);
+    if tag.code != wire::READ {
+        return wire::no_field(tag.code);
+    }
+    let next = tag.next;
+    let value = tag.value;
+    match value {
+        8 => wire::read_varint(message, next, 1),
+        18 => wire::read_bytes(message, next, 2),
+        26 => wire::read_bytes(message, next, 3),
+        34 => wire::read_bytes(message, next, 4),
+        _ => wire::read_tagged(message, next, value),
+    }
+}
+
 // A field that holds bytes: role, election_id or status, or one to be skipped.
 fn take_bytes(part: &[u8], number: u64, u: Raw) -> Raw
     ensures { λ r. ⌜ r ≡ settled (seeBytes number (now (part .entry)) u) ⌝ }
@@ -172,7 +213,7 @@ pub fn read_raw(message: &[u8]) -> Raw
     let mut u = refused(wire::READ);
     let mut at = 0;
     while at < message.len() {
-        let field = wire::read_field(message, at);
+        let field = field_at(message, at);
         if field.code != wire::READ {
             return refused(field.code);
         }

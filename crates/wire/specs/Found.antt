@@ -9,7 +9,7 @@ use lib.Seq.{drop-drop, length-take-le, take-append-seam}
 use borrow.Author.Tests.{le-leb, lt-leb}
 use Rattle.wire.specs.Numbers.{Fault, cutShort, tooLarge, badTag, codeOf, Taken, taken, fault, after, number}
 use Rattle.wire.specs.Fields as Fields
-use Rattle.wire.specs.Fields.{varint, fixed, bytes, part, asVarint, asFixed, partAs, field}
+use Rattle.wire.specs.Fields.{varint, fixed, bytes, part, asVarint, asFixed, partAs, asBytes, content, tagged, field}
 use Rattle.wire.specs.Places.{placeOf, foundNumber, numberAt, noField, standing, foundField, fieldAt, fieldOf}
 use Rattle.wire.specs.Joining.{place-drop}
 use Rattle.wire.specs.Readers.{Behind, reads-number, number-shorter, reads-field, field-shorter, holds-field}
@@ -80,6 +80,48 @@ module _ (message : List ℕ) (at : ℕ) (r : Number) where
   varint-field n found =
       ap (λ (k : ℕ). standing (varint n (r .value)) k) (sym (place-drop message (r .next) (found .inside)))
       ∙ with-number found (λ value rest. taken (varint n value) rest)
+
+-- ---- the field behind a tag that has been read
+
+module _ (message : List ℕ) (at : ℕ) (r : Number) (is : r ≡ numberAt message at) where
+  pub no-tag : r .code ≢ 0 → noField (r .code) ≡ fieldAt message at
+  unfolding fieldAt field
+  no-tag bad = no-number-no-field message at r (no-number message at r is bad) tagged
+
+  module _ (good : r .code ≡ 0) where
+    pub tag-inside : r .next ≤ length message
+    tag-inside = found-number message at r is good .inside
+
+    pub with-tag : foundField message (tagged (r .value) (drop (r .next) message)) ≡ fieldAt message at
+    unfolding fieldAt field
+    with-tag = with-number message at r (found-number message at r is good) tagged
+
+    -- Who knows the tag knows what stands behind it.
+    pub with-known-tag : (tag : ℕ) (behind : List ℕ → Taken Fields.Field) → r .value ≡ tag → tagged tag ≡ behind → foundField message (behind (drop (r .next) message)) ≡ fieldAt message at
+    with-known-tag tag behind v e =
+        ap (λ (g : List ℕ → Taken Fields.Field). foundField message (g (drop (r .next) message))) (sym e)
+        ∙ ap (λ (t : ℕ). foundField message (tagged t (drop (r .next) message))) (sym v)
+        ∙ with-tag
+
+pub number-1 : tagged 8 ≡ asVarint 1
+unfolding tagged content
+number-1 = refl
+
+pub number-2 : tagged 16 ≡ asVarint 2
+unfolding tagged content
+number-2 = refl
+
+pub bytes-2 : tagged 18 ≡ asBytes 2
+unfolding tagged content
+bytes-2 = refl
+
+pub bytes-3 : tagged 26 ≡ asBytes 3
+unfolding tagged content
+bytes-3 = refl
+
+pub bytes-4 : tagged 34 ≡ asBytes 4
+unfolding tagged content
+bytes-4 = refl
 
 module _ (message : List ℕ) (at n size : ℕ) (inside : at ≤ length message) where
   module _ (fits : size ≤ length message - at) where

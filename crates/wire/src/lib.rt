@@ -3,7 +3,7 @@ ghost use mathlib.Core.Path.{_≡_};
 ghost use Prim.Native.Nat.{_*_, _%_, _^_, _<_, _≤_};
 ghost use lib.ListN.{length, drop};
 ghost use Rattle.wire.specs.Groups.{joined};
-ghost use Rattle.wire.specs.Places.{noNumber, numberAt, noField, foundField, fieldAt};
+ghost use Rattle.wire.specs.Places.{noNumber, numberAt, noField, foundField};
 ghost use Rattle.wire.specs.Fields.{asVarint, asFixed, partAs, asBytes, content, tagged};
 
 // Nothing is wrong.
@@ -117,7 +117,7 @@ pub struct Field {
     pub next: usize,
 }
 
-fn no_field(code: u8) -> Field
+pub fn no_field(code: u8) -> Field
     ensures { λ r. ⌜ r ≡ noField code ⌝ }
 {
     Field {
@@ -132,7 +132,7 @@ fn no_field(code: u8) -> Field
 
 // ---- what stands behind a tag, by its wire type
 
-fn read_varint(message: &[u8], at: usize, number: u64) -> Field
+pub fn read_varint(message: &[u8], at: usize, number: u64) -> Field
     ensures { λ r. ⌜ r ≡ foundField (now (message .entry)) (asVarint number (drop at (now (message .entry)))) ⌝ }
 {
     let read = read_number(message, at);
@@ -184,7 +184,7 @@ fn read_part(message: &[u8], at: usize, number: u64, size: u64) -> Field
     no_field(CUT_SHORT)
 }
 
-fn read_bytes(message: &[u8], at: usize, number: u64) -> Field
+pub fn read_bytes(message: &[u8], at: usize, number: u64) -> Field
     ensures { λ r. ⌜ r ≡ foundField (now (message .entry)) (asBytes number (drop at (now (message .entry)))) ⌝ }
 {
     let size = read_number(message, at);
@@ -207,8 +207,8 @@ fn read_content(message: &[u8], at: usize, wire: u64, number: u64) -> Field
     }
 }
 
-// The field whose tag stands before the place.
-fn read_tagged(message: &[u8], at: usize, tag: u64) -> Field
+// The field whose tag stands before the place. Who knows the tag calls `read_varint` or `read_bytes` instead.
+pub fn read_tagged(message: &[u8], at: usize, tag: u64) -> Field
     requires { ⌜ at ≤ length (now message) ⌝ }
     ensures { λ r. ⌜ r ≡ foundField (now (message .entry)) (tagged tag (drop at (now (message .entry)))) ⌝ }
 {
@@ -220,15 +220,4 @@ fn read_tagged(message: &[u8], at: usize, tag: u64) -> Field
         return no_field(BAD_TAG);
     }
     read_content(message, at, tag & 7, number)
-}
-
-// The field at a place.
-pub fn read_field(message: &[u8], at: usize) -> Field
-    ensures { λ r. ⌜ r ≡ fieldAt (now (message .entry)) at ⌝ }
-{
-    let tag = read_number(message, at);
-    if tag.code == READ {
-        return read_tagged(message, tag.next, tag.value);
-    }
-    no_field(tag.code)
 }

@@ -28,8 +28,8 @@ abbrev μ-loop : tie.MeasureT-loop
 loop-holds : tie.Need-loop-holds Inv-loop μ-loop
 loop-holds c = walking-starts _ _ _
 
-read-field-requires : tie.Need-read-field-requires Inv-loop μ-loop
-read-field-requires c κs = search needs
+embedded-field-requires : tie.Need-embedded-field-requires Inv-loop μ-loop
+embedded-field-requires c κs = search needs
 
 no-pair-requires : tie.Need-no-pair-requires Inv-loop μ-loop
 no-pair-requires c κs = search needs
@@ -38,7 +38,7 @@ returns : tie.Need-returns Inv-loop μ-loop
 returns c =
     let at-loop = c .before .before .before .before .before in
     let a = at-loop .before .before .args in
-    let r = c .before .before .before .read-field in
+    let r = c .before .before .before .embedded-field in
     let lost = no-field (a .part .now) (at-loop .loop .at) (r .result) (r .ensures) (c .before .if1 .taken) in
     c .no-pair .ensures ∙ ap (λ (code : ℕ). record { code = code; first = 0; second = 0 }) (sym (lost .code)) ∙ ap pairOf (sym (walking-faults _ _ _ (at-loop .loop .inv) (omega arith) (r .result) lost))
 
@@ -52,7 +52,7 @@ loop-less : tie.Need-loop-less Inv-loop μ-loop
 loop-less c =
     let at-loop = c .before .before .before .before .before .before in
     let a = at-loop .before .before .args in
-    let r = c .before .before .before .before .read-field in
+    let r = c .before .before .before .before .embedded-field in
     let found = found-field (a .part .now) (at-loop .loop .at) (r .result) (r .ensures) (omega arith) in
     omega arith
 
@@ -60,7 +60,7 @@ loop-again : tie.Need-loop-again Inv-loop μ-loop
 loop-again c =
     let at-loop = c .before .before .before .before .before .before in
     let a = at-loop .before .before .args in
-    let r = c .before .before .before .before .read-field in
+    let r = c .before .before .before .before .embedded-field in
     let found = found-field (a .part .now) (at-loop .loop .at) (r .result) (r .ensures) (omega arith) in
     walking-on _ _ _ (at-loop .loop .inv) (omega arith) (r .result) found _
     (ap₂ (λ (x y : ℕ). whole (record { first = x; second = y })) (sym (c .before .last .ensures ∙ last-scalar (a .part .now) (r .result) 1 _)) (sym (c .last2 .ensures ∙ last-scalar (a .part .now) (r .result) 2 _)))
@@ -75,7 +75,7 @@ read-pair-spec =
     Inv-loop
     μ-loop
     loop-holds
-    read-field-requires
+    embedded-field-requires
     no-pair-requires
     returns
     last-requires

@@ -26,8 +26,8 @@ refused-requires c κs = search needs
 loop-holds : tie.Need-loop-holds Inv-loop μ-loop
 loop-holds c = (rw (c .refused .ensures) (walking-starts _ _ _), ap (λ (r : Raw). r .code) (c .refused .ensures))
 
-read-field-requires : tie.Need-read-field-requires Inv-loop μ-loop
-read-field-requires c κs = search needs
+field-at-requires : tie.Need-field-at-requires Inv-loop μ-loop
+field-at-requires c κs = search needs
 
 refused-requires-2 : tie.Need-refused-requires-2 Inv-loop μ-loop
 refused-requires-2 c κs = search needs
@@ -36,7 +36,7 @@ returns : tie.Need-returns Inv-loop μ-loop
 returns c =
     let at-loop = c .before .before .before .before .before in
     let l = c .before .before .before .before .before .before .before .before .args .message .now in
-    let r = c .before .before .before .read-field in
+    let r = c .before .before .before .field-at in
     let lost = no-field l (at-loop .loop .at) (r .result) (r .ensures) (c .before .if1 .taken) in
     c .refused2 .ensures ∙ ap refusedRaw (sym (lost .code)) ∙ ap settled (sym (walking-faults _ _ _ (at-loop .loop .inv .0) (omega arith) (r .result) lost)) ∙ sees-message l
 
@@ -44,7 +44,7 @@ take-requires : tie.Need-take-requires Inv-loop μ-loop
 take-requires c κs =
     let at-loop = c .before .before .before .before in
     let l = c .before .before .before .before .before .before .before .args .message .now in
-    let r = c .before .before .read-field in
+    let r = c .before .before .field-at in
     let found = found-field l (at-loop .loop .at) (r .result) (r .ensures) (omega arith) in
     (found .ordered, found .inside)
 
@@ -52,7 +52,7 @@ returns-2 : tie.Need-returns-2 Inv-loop μ-loop
 returns-2 c =
     let at-loop = c .before .before .before .before .before .before .before in
     let l = c .before .before .before .before .before .before .before .before .before .before .args .message .now in
-    let r = c .before .before .before .before .before .read-field in
+    let r = c .before .before .before .before .before .field-at in
     let found = found-field l (at-loop .loop .at) (r .result) (r .ensures) (omega arith) in
     let lost = sees-broken (fieldOf l (r .result)) (at-loop .loop .u) _ (at-loop .loop .inv .1) (c .before .before .take .ensures) (c .if2 .taken) in
     lost .2 ∙ ap settled (sym (walking-breaks _ _ _ (at-loop .loop .inv .0) (omega arith) (r .result) found (lost .0) (lost .1))) ∙ sees-message l
@@ -61,7 +61,7 @@ loop-less : tie.Need-loop-less Inv-loop μ-loop
 loop-less c =
     let at-loop = c .before .before .before .before .before .before .before in
     let l = c .before .before .before .before .before .before .before .before .before .before .args .message .now in
-    let r = c .before .before .before .before .before .read-field in
+    let r = c .before .before .before .before .before .field-at in
     let found = found-field l (at-loop .loop .at) (r .result) (r .ensures) (omega arith) in
     omega arith
 
@@ -69,7 +69,7 @@ loop-again : tie.Need-loop-again Inv-loop μ-loop
 loop-again c =
     let at-loop = c .before .before .before .before .before .before .before in
     let l = c .before .before .before .before .before .before .before .before .before .before .args .message .now in
-    let r = c .before .before .before .before .before .read-field in
+    let r = c .before .before .before .before .before .field-at in
     let found = found-field l (at-loop .loop .at) (r .result) (r .ensures) (omega arith) in
     let good : c .before .before .take .result .code ≡ 0 = omega arith in
     (walking-on _ _ _ (at-loop .loop .inv .0) (omega arith) (r .result) found _ (sees-whole (fieldOf l (r .result)) (at-loop .loop .u) _ (at-loop .loop .inv .1) (c .before .before .take .ensures) good), good)
@@ -85,7 +85,7 @@ read-raw-spec =
     μ-loop
     refused-requires
     loop-holds
-    read-field-requires
+    field-at-requires
     refused-requires-2
     returns
     take-requires
