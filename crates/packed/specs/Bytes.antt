@@ -7,7 +7,7 @@ use lib.ListN.{length, drop}
 use Rattle.wire.specs.Numbers.{codeOf}
 use Rattle.wire.specs.Messages.{Reading, whole, broken}
 use Rattle.update.specs.Update.{Update, reading}
-use Rattle.update.specs.Raw.{seen}
+use Rattle.update.specs.Seen.{seen}
 use Rattle.update.specs.declared.Raw.{Raw}
 
 -- The low n bytes of a number, the least first.

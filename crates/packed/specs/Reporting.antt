@@ -11,7 +11,7 @@ use Rattle.wire.specs.Messages.{Reading, whole, broken}
 use Rattle.wire.specs.Found.{some-code}
 use Rattle.text.specs.Put.{Put}
 use Rattle.update.specs.Update.{Update, reading}
-use Rattle.update.specs.Raw.{rawOf}
+use Rattle.update.specs.Seen.{rawOf}
 use Rattle.update.specs.declared.Raw.{Raw}
 use Rattle.packed.specs.Bytes.{fieldBytes, fieldLength, bufferShort, reportedAs, reported}
 use Rattle.packed.specs.Little.{little-length}

@@ -10,7 +10,7 @@ use Rattle.wire.specs.Messages.{Reading, whole, broken}
 use Rattle.text.specs.Decimal.{decimal}
 use Rattle.text.specs.Lines.{newline, refusedLine}
 use Rattle.update.specs.Update.{Update, reading}
-use Rattle.update.specs.Raw.{seen}
+use Rattle.update.specs.Seen.{seen}
 use Rattle.update.specs.Arbitration.{low32}
 use Rattle.update.specs.declared.Raw.{Raw}
 

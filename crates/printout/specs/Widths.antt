@@ -13,7 +13,7 @@ use Rattle.wire.specs.Found.{some-code}
 use Rattle.text.specs.Lines.{refusedLine}
 use Rattle.text.specs.Digits.{width}
 use Rattle.update.specs.Update.{Update, reading}
-use Rattle.update.specs.Raw.{rawOf}
+use Rattle.update.specs.Seen.{rawOf}
 use Rattle.update.specs.Arbitration.{low32}
 use Rattle.update.specs.Signed.{bitsOf}
 use Rattle.update.specs.declared.Raw.{Raw}

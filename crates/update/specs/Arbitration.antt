@@ -6,7 +6,7 @@ use lib.IntN.{ℤ, pos, negsuc}
 use Rattle.wire.specs.Numbers.{codeOf}
 use Rattle.wire.specs.Messages.{Reading, whole, broken}
 use Rattle.update.specs.Update as Spec
-use Rattle.update.specs.Raw.{value, isGiven}
+use Rattle.update.specs.Seen.{value, isGiven}
 use Rattle.update.specs.declared.Arbitration.{Arbitration}
 
 -- A number below 2^32 as a signed one: from 2^31 on it is 2^32 less. (`negsuc n` is -1 - n.)

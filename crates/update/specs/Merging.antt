@@ -11,6 +11,7 @@ use Rattle.wire.specs.Messages.{Reading, whole, broken, mapped, message}
 use Rattle.wire.specs.Folding.{message-append, message-seen, message-skips}
 use Rattle.update.specs.Update.{Role, Uint128, Status, Update, noRole, noElection, noStatus, nothing, scalar, inRole, inElection, inStatus, orElse, embedded, withRole, withElection, withStatus, took, reading}
 use Rattle.update.specs.Merge.{later, mergeRole, mergeElection, mergeStatus, both, merge, unknown}
+use Rattle.update.specs.Choices.{either-same}
 
 later-if : (b : Bool) (value : ℕ) (old new : Option ℕ) → later old (cond b (some value) new) ≡ cond b (some value) (later old new)
 later-if true value old new = refl
@@ -94,10 +95,6 @@ module _ {A : Type 0} (k : Kind A) where
       go (broken why) = refl
 
 -- ---- the whole message
-
-either-same : {A B : Type 0} (g : A → B) (b : Bool) {x y : A} {x′ y′ : B} → g x ≡ x′ → g y ≡ y′ → g (cond b x y) ≡ cond b x′ y′
-either-same g true p q = p
-either-same g false p q = q
 
 module _ (u : Update) where
   -- With one embedded message read, the others stay.

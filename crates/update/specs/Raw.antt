@@ -1,52 +1,14 @@
--- What the code keeps of a message while it reads it: absent scalars are 0, and a scalar is kept at the width of the wire.
-use mathlib.Core.Bool.{Bool, true, false, cond}
+-- What the code makes of each field.
+use mathlib.Core.Bool.{true, cond}
 use mathlib.Core.List.{List}
-use mathlib.Core.Option.{Option, none, some}
 use Prim.Native.Nat.{ℕ}
 use lib.Dec.{eqb}
 use Rattle.wire.specs.Numbers.{codeOf}
 use Rattle.wire.specs.Fields.{Field, varint, fixed, bytes}
 use Rattle.wire.specs.Messages.{Reading, whole, broken, mapped, message}
 use Rattle.wire.specs.declared.Field as Placed
-use Rattle.update.specs.Update as Spec
 use Rattle.update.specs.declared.Pair.{Pair}
 use Rattle.update.specs.declared.Raw.{Raw}
-
-abbrev pub value : Option ℕ → ℕ
-value none = 0
-value (some v) = v
-
-abbrev pub isGiven : {A : Type 0} → Option A → Bool
-isGiven none = false
-isGiven (some a) = true
-
--- ---- of a whole message
-
-abbrev pub seen : Spec.Update → Raw
-seen u = record {
-  code = 0;
-  device = value (u .device);
-  role = isGiven (u .role);
-  id = value (Spec.orElse Spec.noRole (u .role) .id);
-  election = isGiven (u .election);
-  high = value (Spec.orElse Spec.noElection (u .election) .high);
-  low = value (Spec.orElse Spec.noElection (u .election) .low);
-  status = isGiven (u .status);
-  error = value (Spec.orElse Spec.noStatus (u .status) .code);
-}
-
--- Beside a fault nothing is present and all is 0.
-abbrev pub refusedRaw : ℕ → Raw
-refusedRaw code = record { code = code; device = 0; role = false; id = 0; election = false; high = 0; low = 0; status = false; error = 0 }
-
-abbrev pub settled : Reading Raw → Raw
-settled (whole r) = r
-settled (broken why) = refusedRaw (codeOf why)
-
-abbrev pub rawOf : Reading Spec.Update → Raw
-rawOf r = settled (mapped seen r)
-
--- ---- field by field
 
 abbrev pub seeScalar : ℕ → Field → ℕ → ℕ
 seeScalar n (varint k v) old = cond (eqb k n) v old

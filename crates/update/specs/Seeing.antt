@@ -17,9 +17,11 @@ use Rattle.wire.specs.Found.{some-code}
 use Rattle.wire.specs.Folding.{message-seen}
 use Rattle.wire.specs.declared.Field as Placed
 use Rattle.update.specs.Update as Spec
-use Rattle.update.specs.Raw.{value, seen, refusedRaw, settled, rawOf, seeScalar, lastAt, seeFirst, Two, seeTwo, pairOf, withDevice, withRole, withElection, withStatus, seeBytes, see}
+use Rattle.update.specs.Seen.{value, seen, refusedRaw, settled, rawOf}
+use Rattle.update.specs.Raw.{seeScalar, lastAt, seeFirst, Two, seeTwo, pairOf, withDevice, withRole, withElection, withStatus, seeBytes, see}
 use Rattle.update.specs.declared.Pair.{Pair}
 use Rattle.update.specs.declared.Raw.{Raw}
+use Rattle.update.specs.Choices.{either-same}
 
 -- ---- one scalar
 
@@ -78,10 +80,6 @@ value-scalar n (fixed k) old = refl
 value-scalar n (bytes k held) old = refl
 
 -- ---- the whole message
-
-either-same : {A B : Type 0} (g : A → B) (b : Bool) {x y : A} {x′ y′ : B} → g x ≡ x′ → g y ≡ y′ → g (cond b x y) ≡ cond b x′ y′
-either-same g true p q = p
-either-same g false p q = q
 
 -- An embedded message of any kind.
 module _ {A B : Type 0} (inside : Field → A → A) (look : Field → B → Reading B) (view : A → B) (each : (f : Field) (a : A) → whole (view (inside f a)) ≡ look f (view a)) where

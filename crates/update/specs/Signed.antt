@@ -10,7 +10,7 @@ use mir.Facts.{toZ-pos, toZ-ofZ}
 use borrow.Author.Tests.{lt-ltb, le-ltb}
 use Rattle.wire.specs.Messages.{Reading, whole, broken}
 use Rattle.update.specs.Update.{Update}
-use Rattle.update.specs.Raw.{rawOf}
+use Rattle.update.specs.Seen.{rawOf}
 use Rattle.update.specs.Arbitration.{signed, low32, arbitration}
 use Rattle.update.specs.declared.Raw.{Raw}
 use Rattle.update.specs.declared.Arbitration.{Arbitration}

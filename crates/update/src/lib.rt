@@ -6,7 +6,8 @@ ghost use Rattle.wire.specs.Messages.{message};
 ghost use Rattle.wire.specs.Places.{fieldAt, fieldOf};
 ghost use Rattle.update.specs.Arbitration.{low32, arbitration};
 ghost use Rattle.update.specs.Update.{reading};
-ghost use Rattle.update.specs.Raw.{lastAt, seeTwo, pairOf, refusedRaw, settled, rawOf, seeRole, seeElection, seeStatus, seeBytes, see};
+ghost use Rattle.update.specs.Seen.{refusedRaw, settled, rawOf};
+ghost use Rattle.update.specs.Raw.{lastAt, seeTwo, pairOf, seeRole, seeElection, seeStatus, seeBytes, see};
 use wire::Field;
 
 // The tags of fields 1 and 2 that hold a number.

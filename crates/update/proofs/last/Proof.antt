@@ -6,7 +6,7 @@ use Rattle.update.proofs.last.Tie as tie
 
 returns : tie.Need-returns
 unfolding lastAt
-returns c = search (eq-eqb, ne-eqb)
+returns c = search eq-eqb
 
 returns-2 : tie.Need-returns-2
 unfolding lastAt
@@ -14,7 +14,7 @@ returns-2 c = search (eq-eqb, ne-eqb)
 
 returns-3 : tie.Need-returns-3
 unfolding lastAt
-returns-3 c = search (eq-eqb, ne-eqb)
+returns-3 c = search ne-eqb
 
 pub last-spec : {M : Type 1} → statement M
 last-spec = tie.close (tie.spec returns returns-2 returns-3)

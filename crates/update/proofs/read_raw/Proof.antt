@@ -8,7 +8,8 @@ use Rattle.wire.specs.Messages.{message}
 use Rattle.wire.specs.Places.{fieldOf}
 use Rattle.wire.specs.Found.{found-field, no-field}
 use Rattle.wire.specs.Walking.{Walking, walking-starts, walking-ends, walking-faults, walking-on, walking-breaks}
-use Rattle.update.specs.Raw.{refusedRaw, settled, see}
+use Rattle.update.specs.Seen.{refusedRaw, settled}
+use Rattle.update.specs.Raw.{see}
 use Rattle.update.specs.Seeing.{sees-message, sees-whole, sees-broken}
 use Rattle.update.specs.declared.Raw.{Raw}
 use Rattle.update.proofs.read_raw.Statement.{statement}

@@ -21,7 +21,7 @@ returns : tie.Need-returns
 returns c =
     let a = c .before .before .before .before .before .args in
     let r = c .before .before .before .read-number in
-    c .read-part .ensures ∙ with-number _ _ _ (found-number (a .message .now) (a .at) (r .result) (r .ensures) (c .before .if1 .taken)) (partAs (a .number))
+    c .read-part .ensures ∙ with-number (a .message .now) (a .at) (r .result) (found-number (a .message .now) (a .at) (r .result) (r .ensures) (c .before .if1 .taken)) (partAs (a .number))
 
 no-field-requires : tie.Need-no-field-requires
 no-field-requires c κs = search needs
@@ -30,7 +30,7 @@ returns-2 : tie.Need-returns-2
 returns-2 c =
     let a = c .before .before .before .before .before .args in
     let r = c .before .before .before .read-number in
-    c .no-field .ensures ∙ no-number-no-field _ _ _ (no-number (a .message .now) (a .at) (r .result) (r .ensures) (c .before .if1 .left)) (partAs (a .number))
+    c .no-field .ensures ∙ no-number-no-field (a .message .now) (a .at) (r .result) (no-number (a .message .now) (a .at) (r .result) (r .ensures) (c .before .if1 .left)) (partAs (a .number))
 
 pub read-bytes-spec : {M : Type 1} → statement M
 read-bytes-spec =

@@ -24,7 +24,7 @@ returns-2 : tie.Need-returns-2
 returns-2 c =
     let a = c .before .before .before .before .before .args in
     let r = c .before .before .before .read-number in
-    c .no-field .ensures ∙ no-number-no-field _ _ _ (no-number (a .message .now) (a .at) (r .result) (r .ensures) (c .before .if1 .left)) (λ value rest. taken (varint (a .number) value) rest)
+    c .no-field .ensures ∙ no-number-no-field (a .message .now) (a .at) (r .result) (no-number (a .message .now) (a .at) (r .result) (r .ensures) (c .before .if1 .left)) (λ value rest. taken (varint (a .number) value) rest)
 
 pub read-varint-spec : {M : Type 1} → statement M
 read-varint-spec = tie.close (tie.spec read-number-requires returns no-field-requires returns-2)
