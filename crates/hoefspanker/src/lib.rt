@@ -1,5 +1,6 @@
-// The call for a C host: see include/hoefspanker.h.
+// The calls for a C host: see include/hoefspanker.h.
 ghost use mathlib.Core.Path.{_≡_};
+ghost use Rattle.packed.specs.Bytes.{reported};
 ghost use Rattle.runner.specs.Ran.{ran};
 
 // Runs a list from a fresh state: an answer for each record, the history behind the answers, and the bytes after it stay.
@@ -10,4 +11,14 @@ pub extern "C" fn hoefspanker_run(list: &[u8], out: &mut [u8]) -> u32
         × (now (out .exit) ≡ ran (now (list .entry)) (now (out .entry)) .out) ⌝ }
 {
     runner::run(list, out)
+}
+
+// Reads a captured arbitration message: its fields as 40 bytes at the front of the buffer, and the bytes after them stay. Returns 0, or why the message
+// or the buffer is refused, and then leaves every byte of the buffer.
+#[no_mangle]
+pub extern "C" fn hoefspanker_read_arbitration(message: &[u8], fields: &mut [u8]) -> u32
+    ensures { λ r. ⌜ (r ≡ reported (now (message .entry)) (now (fields .entry)) .returned)
+        × (now (fields .exit) ≡ reported (now (message .entry)) (now (fields .entry)) .fields) ⌝ }
+{
+    packed::read_into(message, fields)
 }
