@@ -10,11 +10,6 @@ ghost use Rattle.update.specs.Seen.{refusedRaw, settled, rawOf};
 ghost use Rattle.update.specs.Raw.{lastAt, seeTwo, pairOf, seeRole, seeElection, seeStatus, seeBytes, see};
 use wire::Field;
 
-// The tags of fields 1 and 2 that hold a number.
-const NUMBER_1: u64 = 8;
-
-const NUMBER_2: u64 = 16;
-
 // ---- embedded messages
 
 // The numbers of fields 1 and 2. Both are 0 beside a fault.
@@ -54,17 +49,12 @@ fn last(field: Field, number: u64, old: u64) -> u64
 fn embedded_field(part: &[u8], at: usize) -> Field
     ensures { λ r. ⌜ r ≡ fieldAt (now (part .entry)) at ⌝ }
 {
-    let tag = wire::read_number(part, at);
-    if tag.code != wire::READ {
-        return wire::no_field(tag.code);
+    let tag = wire::first_byte(part, at);
+    match tag {
+        8 => wire::read_varint(part, at + 1, 1),
+        16 => wire::read_varint(part, at + 1, 2),
+        _ => wire::read_field(part, at),
     }
-    if tag.value == NUMBER_1 {
-        return wire::read_varint(part, tag.next, 1);
-    }
-    if tag.value == NUMBER_2 {
-        return wire::read_varint(part, tag.next, 2);
-    }
-    wire::read_tagged(part, tag.next, tag.value)
 }
 
 fn no_pair(code: u8) -> Pair
@@ -162,18 +152,13 @@ fn take_status(part: &[u8], u: Raw) -> Raw
 fn field_at(message: &[u8], at: usize) -> Field
     ensures { λ r. ⌜ r ≡ fieldAt (now (message .entry)) at ⌝ }
 {
-    let tag = wire::read_number(message, at);
-    if tag.code != wire::READ {
-        return wire::no_field(tag.code);
-    }
-    let next = tag.next;
-    let value = tag.value;
-    match value {
-        8 => wire::read_varint(message, next, 1),
-        18 => wire::read_bytes(message, next, 2),
-        26 => wire::read_bytes(message, next, 3),
-        34 => wire::read_bytes(message, next, 4),
-        _ => wire::read_tagged(message, next, value),
+    let tag = wire::first_byte(message, at);
+    match tag {
+        8 => wire::read_varint(message, at + 1, 1),
+        18 => wire::read_bytes(message, at + 1, 2),
+        26 => wire::read_bytes(message, at + 1, 3),
+        34 => wire::read_bytes(message, at + 1, 4),
+        _ => wire::read_field(message, at),
     }
 }
 

@@ -10,8 +10,8 @@ use borrow.Author.Tests.{le-leb, lt-leb}
 use Rattle.wire.specs.Numbers.{Fault, cutShort, tooLarge, badTag, codeOf, Taken, taken, fault, after, number}
 use Rattle.wire.specs.Fields as Fields
 use Rattle.wire.specs.Fields.{varint, fixed, bytes, part, asVarint, asFixed, partAs, asBytes, content, tagged, field}
-use Rattle.wire.specs.Places.{placeOf, foundNumber, numberAt, noField, standing, foundField, fieldAt, fieldOf}
-use Rattle.wire.specs.Joining.{place-drop}
+use Rattle.wire.specs.Places.{placeOf, firstByte, foundNumber, numberAt, noField, standing, foundField, fieldAt, fieldOf}
+use Rattle.wire.specs.Joining.{place-drop, one-byte}
 use Rattle.wire.specs.Readers.{Behind, reads-number, number-shorter, reads-field, field-shorter, holds-field}
 use Rattle.wire.specs.declared.Number.{Number}
 use Rattle.wire.specs.declared.Field.{Field}
@@ -64,6 +64,12 @@ module _ (message : List ℕ) (at : ℕ) (r : Number) (is : r ≡ numberAt messa
       go (taken value rest) e = absurd (some (ap (λ (x : Number). x .code) (is ∙ ap (foundNumber message) e)))
       go (fault why) e = record { why = why; stands = e; code = sym (ap (λ (x : Number). x .code) (is ∙ ap (foundNumber message) e)) }
 
+-- A number of one byte.
+pub first-found : (message : List ℕ) (at byte : ℕ) → byte ≡ firstByte message at → byte < 128 → FoundNumber message at (record { code = 0; value = byte; next = at + 1 })
+first-found message at byte is small =
+    found-number message at (record { code = 0; value = byte; next = at + 1 })
+    (ap (λ (v : ℕ). record { code = 0; value = v; next = at + 1 }) is ∙ sym (one-byte message at (rw is at small))) refl
+
 -- ---- fields
 
 module _ (message : List ℕ) (at : ℕ) (r : Number) where
@@ -81,27 +87,15 @@ module _ (message : List ℕ) (at : ℕ) (r : Number) where
       ap (λ (k : ℕ). standing (varint n (r .value)) k) (sym (place-drop message (r .next) (found .inside)))
       ∙ with-number found (λ value rest. taken (varint n value) rest)
 
--- ---- the field behind a tag that has been read
+-- ---- the field whose tag has been seen
 
-module _ (message : List ℕ) (at : ℕ) (r : Number) (is : r ≡ numberAt message at) where
-  pub no-tag : r .code ≢ 0 → noField (r .code) ≡ fieldAt message at
-  unfolding fieldAt field
-  no-tag bad = no-number-no-field message at r (no-number message at r is bad) tagged
-
-  module _ (good : r .code ≡ 0) where
-    pub tag-inside : r .next ≤ length message
-    tag-inside = found-number message at r is good .inside
-
-    pub with-tag : foundField message (tagged (r .value) (drop (r .next) message)) ≡ fieldAt message at
-    unfolding fieldAt field
-    with-tag = with-number message at r (found-number message at r is good) tagged
-
-    -- Who knows the tag knows what stands behind it.
-    pub with-known-tag : (tag : ℕ) (behind : List ℕ → Taken Fields.Field) → r .value ≡ tag → tagged tag ≡ behind → foundField message (behind (drop (r .next) message)) ≡ fieldAt message at
-    with-known-tag tag behind v e =
-        ap (λ (g : List ℕ → Taken Fields.Field). foundField message (g (drop (r .next) message))) (sym e)
-        ∙ ap (λ (t : ℕ). foundField message (tagged t (drop (r .next) message))) (sym v)
-        ∙ with-tag
+-- Who has seen a tag of one byte knows what stands behind it.
+pub with-tag : (message : List ℕ) (at byte tag : ℕ) (behind : List ℕ → Taken Fields.Field) → byte ≡ firstByte message at → byte ≡ tag → tag < 128 → tagged tag ≡ behind
+    → foundField message (behind (drop (at + 1) message)) ≡ fieldAt message at
+unfolding fieldAt field
+with-tag message at byte tag behind is same small e =
+    ap (λ (g : List ℕ → Taken Fields.Field). foundField message (g (drop (at + 1) message))) (sym e)
+    ∙ with-number message at (record { code = 0; value = tag; next = at + 1 }) (first-found message at tag (sym same ∙ is) small) tagged
 
 pub number-1 : tagged 8 ≡ asVarint 1
 unfolding tagged content

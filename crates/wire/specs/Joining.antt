@@ -1,6 +1,7 @@
 -- A number group by group: what the loop that reads it knows at each byte. Assumes nothing.
 use mathlib.Core.Path.{_≡_, refl, sym, ap, ap₂, _∙_}
 use mathlib.Core.Logic.{_≢_}
+use mathlib.Core.Bool.{Bool, true, false, cond}
 use mathlib.Core.List.{List, _∷_}
 use Prim.Native.Nat.{ℕ, zero, suc, _+_, _*_, _%_, _^_, _<_, _≤_}
 use native.Mathlib.Nat.{mul-add, mul-assoc, mul-comm, mod-eq-of-lt, lt-of-lt-of-le}
@@ -10,10 +11,11 @@ use lib.Pow.{pow-add, pow-mono, shl-lt}
 use lib.Arith.{digits-lt}
 use lib.ListN.{length, getD, drop, length-drop, drop-of-length-le}
 use lib.Seq.{drop-cons}
-use borrow.Author.Tests.{lt-ltb, le-ltb, le-leb, lt-leb}
+use lib.Dec.{ltb}
+use borrow.Author.Tests.{ltb-true, lt-ltb, le-ltb, le-leb, lt-leb}
 use Rattle.wire.specs.Numbers.{Taken, taken, fault, tooLarge, after, numberIn, number}
 use Rattle.wire.specs.Groups.{joined}
-use Rattle.wire.specs.Places.{placeOf, foundNumber, numberAt}
+use Rattle.wire.specs.Places.{placeOf, firstByte, foundNumber, numberAt}
 
 pub place-drop : (message : List ℕ) (next : ℕ) → next ≤ length message → placeOf message (drop next message) ≡ next
 place-drop message next h = let n = length-drop next message in omega arith
@@ -126,7 +128,17 @@ module _ {message : List ℕ} {at value shift next : ℕ} (j : Joining message a
 
 -- ---- a number of one byte
 
-pub one-byte : (message : List ℕ) (at : ℕ) → at < length message → getD message at 0 < 128 → numberAt message at ≡ record { code = 0; value = getD message at 0; next = at + 1 }
-one-byte message at inside small =
-    let whole : joined 0 (getD message at 0) 0 ≡ getD message at 0 = omega arith in
-    ends-here (joining-starts message at) inside (λ e. omega arith) small ∙ ap (λ (v : ℕ). record { code = 0; value = v; next = at + 1 }) whole
+byte-inside : (message : List ℕ) (at : ℕ) → firstByte message at < 128 → (at < length message) × (firstByte message at ≡ getD message at 0)
+unfolding firstByte
+byte-inside message at small = go (ltb at (length message)) refl
+  where
+    go : (b : Bool) → ltb at (length message) ≡ b → (at < length message) × (cond (ltb at (length message)) (getD message at 0) 128 ≡ getD message at 0)
+    go true e = (ltb-true _ _ e, simp e)
+    go false e = absurd (let none : cond (ltb at (length message)) (getD message at 0) 128 ≡ 128 = simp e in omega arith)
+
+pub one-byte : (message : List ℕ) (at : ℕ) → firstByte message at < 128 → numberAt message at ≡ record { code = 0; value = firstByte message at; next = at + 1 }
+one-byte message at small =
+    let b = byte-inside message at small in
+    let same = b .1 in
+    let whole : joined 0 (getD message at 0) 0 ≡ firstByte message at = omega arith in
+    ends-here (joining-starts message at) (b .0) (λ e. omega arith) (omega arith) ∙ ap (λ (v : ℕ). record { code = 0; value = v; next = at + 1 }) whole

@@ -2,8 +2,8 @@
 use mathlib.Core.Bool.{cond}
 use mathlib.Core.List.{List}
 use Prim.Native.Nat.{ℕ, _-_}
-use lib.Dec.{eqb}
-use lib.ListN.{length, take, drop}
+use lib.Dec.{eqb, ltb}
+use lib.ListN.{length, getD, take, drop}
 use Rattle.wire.specs.Numbers.{Taken, taken, fault, codeOf, number}
 use Rattle.wire.specs.Fields as Fields
 use Rattle.wire.specs.Fields.{varint, fixed, bytes, field}
@@ -15,6 +15,10 @@ abbrev pub placeOf : List ℕ → List ℕ → ℕ
 placeOf message rest = length message - length rest
 
 -- ---- numbers
+
+-- The byte at a place; behind the end 128, which begins no number of one byte.
+unfoldable pub firstByte : List ℕ → ℕ → ℕ
+firstByte message at = cond (ltb at (length message)) (getD message at 0) 128
 
 abbrev pub noNumber : ℕ → Number
 noNumber code = record { code = code; value = 0; next = 0 }

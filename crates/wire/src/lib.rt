@@ -3,7 +3,7 @@ ghost use mathlib.Core.Path.{_≡_};
 ghost use Prim.Native.Nat.{_*_, _%_, _^_, _<_, _≤_};
 ghost use lib.ListN.{length, drop};
 ghost use Rattle.wire.specs.Groups.{joined};
-ghost use Rattle.wire.specs.Places.{noNumber, numberAt, noField, foundField};
+ghost use Rattle.wire.specs.Places.{firstByte, noNumber, numberAt, noField, foundField, fieldAt};
 ghost use Rattle.wire.specs.Fields.{asVarint, asFixed, partAs, asBytes, content, tagged};
 
 // Nothing is wrong.
@@ -46,7 +46,7 @@ fn with_group(value: u64, byte: u64, shift: u64) -> u64
 }
 
 // The number at a place, by groups of seven bits. Its tenth byte has room for one bit.
-fn read_groups(message: &[u8], at: usize) -> Number
+pub fn read_number(message: &[u8], at: usize) -> Number
     ensures { λ r. ⌜ r ≡ numberAt (now (message .entry)) at ⌝ }
 {
     let mut value: u64 = 0;
@@ -78,21 +78,14 @@ fn read_groups(message: &[u8], at: usize) -> Number
     no_number(CUT_SHORT)
 }
 
-// The number at a place. Most numbers are of one byte, and need no loop.
-pub fn read_number(message: &[u8], at: usize) -> Number
-    ensures { λ r. ⌜ r ≡ numberAt (now (message .entry)) at ⌝ }
+// The byte at a place, and 128 behind the end. Below 128 it is the whole number that stands there, as most numbers are.
+pub fn first_byte(message: &[u8], at: usize) -> u64
+    ensures { λ r. ⌜ r ≡ firstByte (now (message .entry)) at ⌝ }
 {
     if at < message.len() {
-        let byte = message[at] as u64;
-        if byte < 128 {
-            return Number {
-                code: READ,
-                value: byte,
-                next: at + 1,
-            };
-        }
+        return message[at] as u64;
     }
-    read_groups(message, at)
+    128
 }
 
 // ---- fields
@@ -117,7 +110,7 @@ pub struct Field {
     pub next: usize,
 }
 
-pub fn no_field(code: u8) -> Field
+fn no_field(code: u8) -> Field
     ensures { λ r. ⌜ r ≡ noField code ⌝ }
 {
     Field {
@@ -135,6 +128,17 @@ pub fn no_field(code: u8) -> Field
 pub fn read_varint(message: &[u8], at: usize, number: u64) -> Field
     ensures { λ r. ⌜ r ≡ foundField (now (message .entry)) (asVarint number (drop at (now (message .entry)))) ⌝ }
 {
+    let byte = first_byte(message, at);
+    if byte < 128 {
+        return Field {
+            code: READ,
+            kind: VARINT,
+            number: number,
+            value: byte,
+            start: 0,
+            next: at + 1,
+        };
+    }
     let read = read_number(message, at);
     if read.code == READ {
         return Field {
@@ -187,6 +191,10 @@ fn read_part(message: &[u8], at: usize, number: u64, size: u64) -> Field
 pub fn read_bytes(message: &[u8], at: usize, number: u64) -> Field
     ensures { λ r. ⌜ r ≡ foundField (now (message .entry)) (asBytes number (drop at (now (message .entry)))) ⌝ }
 {
+    let byte = first_byte(message, at);
+    if byte < 128 {
+        return read_part(message, at + 1, number, byte);
+    }
     let size = read_number(message, at);
     if size.code == READ {
         return read_part(message, size.next, number, size.value);
@@ -207,8 +215,8 @@ fn read_content(message: &[u8], at: usize, wire: u64, number: u64) -> Field
     }
 }
 
-// The field whose tag stands before the place. Who knows the tag calls `read_varint` or `read_bytes` instead.
-pub fn read_tagged(message: &[u8], at: usize, tag: u64) -> Field
+// The field whose tag stands before the place.
+fn read_tagged(message: &[u8], at: usize, tag: u64) -> Field
     requires { ⌜ at ≤ length (now message) ⌝ }
     ensures { λ r. ⌜ r ≡ foundField (now (message .entry)) (tagged tag (drop at (now (message .entry)))) ⌝ }
 {
@@ -220,4 +228,15 @@ pub fn read_tagged(message: &[u8], at: usize, tag: u64) -> Field
         return no_field(BAD_TAG);
     }
     read_content(message, at, tag & 7, number)
+}
+
+// The field at a place. Who has seen its tag calls `read_varint` or `read_bytes` instead.
+pub fn read_field(message: &[u8], at: usize) -> Field
+    ensures { λ r. ⌜ r ≡ fieldAt (now (message .entry)) at ⌝ }
+{
+    let tag = read_number(message, at);
+    if tag.code == READ {
+        return read_tagged(message, tag.next, tag.value);
+    }
+    no_field(tag.code)
 }
