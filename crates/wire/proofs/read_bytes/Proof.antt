@@ -3,7 +3,7 @@ use mathlib.Core.Path.{_∙_}
 use Prim.Native.Nat.{_+_}
 use borrow.Author.Needs.{needs}
 use Rattle.wire.specs.Numbers.{taken}
-use Rattle.wire.specs.Fields.{partAs, field}
+use Rattle.wire.specs.Fields.{partAs}
 use Rattle.wire.specs.Found.{found-number, no-number, first-found, no-number-no-field, with-number}
 use Rattle.wire.proofs.read_bytes.Statement.{statement}
 use Rattle.wire.proofs.read_bytes.Tie as tie

@@ -2,7 +2,7 @@
 use mathlib.Core.Path.{_∙_}
 use borrow.Author.Needs.{needs}
 use Rattle.wire.specs.Numbers.{taken}
-use Rattle.wire.specs.Fields.{varint, field}
+use Rattle.wire.specs.Fields.{varint}
 use Rattle.wire.specs.Found.{found-number, no-number, first-found, no-number-no-field, varint-field}
 use Rattle.wire.proofs.read_varint.Statement.{statement}
 use Rattle.wire.proofs.read_varint.Tie as tie
