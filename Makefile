@@ -1,5 +1,5 @@
 # make run [LIST=file]   prove and build the program, then run an event list (hex text or bytes)
-# make reader            prove and build the program that reads an arbitration message
+# make programs          prove and build all programs: target/bin/replay, compare, arbitration
 # make test              the gate: every proof, every must-fail edit, every test
 # make lib               target/staticlib/libhoefspanker.a for a C host
 # make install PREFIX=   the library, its header, its pkg-config file and the programs
@@ -9,11 +9,11 @@ LIST ?= examples/sample.hex
 PREFIX ?= /usr/local
 DESTDIR ?=
 PROGRAM = target/bin/replay
-READER = target/bin/arbitration
+PROGRAMS = replay compare arbitration
 LIBRARY = target/staticlib/libhoefspanker.a
 VERSION = 1.0.0
 
-.PHONY: run program reader lib test bench install clean
+.PHONY: run program programs lib test bench install clean
 
 run: program
 	@scripts/bytes "$(LIST)" | $(PROGRAM)
@@ -22,9 +22,9 @@ program:
 	@mkdir -p build
 	@rt check replay >build/program.log 2>&1 || { cat build/program.log; exit 1; }
 
-reader:
+programs:
 	@mkdir -p build
-	@rt check arbitration >build/reader.log 2>&1 || { cat build/reader.log; exit 1; }
+	@rt check $(PROGRAMS) >build/program.log 2>&1 || { cat build/program.log; exit 1; }
 
 lib:
 	rt staticlib hoefspanker
@@ -36,10 +36,9 @@ bench: lib
 	host/test.sh >build/test.log 2>&1 || { cat build/test.log; exit 1; }
 	build/host/bench
 
-install: program reader lib
+install: programs lib
 	install -d "$(DESTDIR)$(PREFIX)/bin" "$(DESTDIR)$(PREFIX)/include" "$(DESTDIR)$(PREFIX)/lib/pkgconfig"
-	install -m 755 $(PROGRAM) "$(DESTDIR)$(PREFIX)/bin/replay"
-	install -m 755 $(READER) "$(DESTDIR)$(PREFIX)/bin/arbitration"
+	install -m 755 $(PROGRAMS:%=target/bin/%) "$(DESTDIR)$(PREFIX)/bin"
 	install -m 644 include/hoefspanker.h "$(DESTDIR)$(PREFIX)/include"
 	install -m 644 $(LIBRARY) "$(DESTDIR)$(PREFIX)/lib"
 	sed -e 's|@PREFIX@|$(PREFIX)|' -e 's|@VERSION@|$(VERSION)|' include/hoefspanker.pc.in >"$(DESTDIR)$(PREFIX)/lib/pkgconfig/hoefspanker.pc"

@@ -62,7 +62,21 @@
 #define HOEFSPANKER_BAD_MARK 9         /* last two bytes not 4D 41, or the zero byte not 0 */
 #define HOEFSPANKER_BAD_NODE_COUNT 10  /* node count not 1 to 8 */
 #define HOEFSPANKER_BAD_EXTENT 11      /* first + 2 * count + 12 is not the length */
-#define HOEFSPANKER_OUT_TOO_SHORT 12   /* output shorter than count + 4,096 bytes */
+#define HOEFSPANKER_OUT_TOO_SHORT 12   /* output shorter than count + 4,096 bytes; of places, than 8 */
+
+/* Verdicts on two lists as merges of the same logs. */
+#define HOEFSPANKER_SAME 256        /* the same writes are accepted, each record keeps its answer */
+#define HOEFSPANKER_ORDER 257       /* two dependent records stand in the other order */
+#define HOEFSPANKER_ONLY_FIRST 258  /* the second list lacks a record of the first */
+#define HOEFSPANKER_ONLY_SECOND 259 /* the first list lacks a record of the second */
+
+/* Refusals of two lists, beside 8 to 12 above: those of the second list are its
+ * 8 to 11 with HOEFSPANKER_OF_SECOND added. */
+#define HOEFSPANKER_OF_SECOND 16
+#define HOEFSPANKER_NODES_DIFFER 28 /* the node counts of the two lists differ */
+
+/* Bytes of the places that a verdict names. */
+#define HOEFSPANKER_PLACES_BYTES 8
 
 /* The least number that a run returns: this one plus the number of writes. */
 #define HOEFSPANKER_RAN 256
@@ -131,6 +145,33 @@ uint32_t hoefspanker_run(const uint8_t *list, size_t list_len,
  * `message` are never changed. */
 uint32_t hoefspanker_read_arbitration(const uint8_t *message, size_t message_len,
                                       uint8_t *fields, size_t fields_len);
+
+/* Compares the lists `first` and `second`: do exchanges of neighbouring
+ * independent records lead from the one to the other? Then both accept the same
+ * writes and every record has the same answer in both.
+ *
+ * The caller owes the same of each pointer and length as above; `places` does
+ * not overlap the lists, which may overlap each other.
+ *
+ * Where a verdict is given, one of the four above is returned, and the first 8
+ * bytes of `places` are four places P, Q, R, S, two bytes each with the least
+ * byte first; places count records from 1, and 0 is no place. The bytes after
+ * them stay as they were.
+ *   HOEFSPANKER_SAME         0 0 0 0
+ *   HOEFSPANKER_ORDER        records P and Q of the first list, P before Q, depend
+ *                            on one another and stand at R and S in the second,
+ *                            S before R
+ *   HOEFSPANKER_ONLY_FIRST   P 0 0 0: the second list lacks record P of the first
+ *   HOEFSPANKER_ONLY_SECOND  0 0 0 S: the first list lacks record S of the second
+ *
+ * Otherwise a refusal is returned and `places` stays as it was: the first
+ * list's 8 to 11; 12 where `places_len` is below 8; the second list's, 24 to 27;
+ * 28 where the node counts differ. Of several the lowest.
+ *
+ * The call takes about 70 KB of stack. */
+uint32_t hoefspanker_same_merge(const uint8_t *first, size_t first_len,
+                                const uint8_t *second, size_t second_len,
+                                uint8_t *places, size_t places_len);
 
 #ifdef __cplusplus
 }

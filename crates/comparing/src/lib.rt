@@ -1,0 +1,293 @@
+// Comparing two merges of the same logs: the records of the first list are taken, in turn, out of the second, each past those that are independent of it. A
+// record that is taken has its letter marked as out of the way, so nothing moves.
+ghost use mathlib.Core.Path.{_≡_};
+ghost use Prim.Native.Nat.{_+_, _≤_, _<_};
+ghost use lib.ListN.{length};
+ghost use Rattle.lists.specs.EventList.{recordAt, recordCount};
+ghost use Rattle.lists.specs.Reads.{eventOf};
+ghost use Rattle.runner.specs.Running.{Trails};
+ghost use Rattle.verdict.specs.Verdict.{sameEvent};
+ghost use Rattle.letters.specs.Letters.{tableSize, TableFor};
+ghost use Rattle.comparing.specs.Marks.{isLeft, isStop, isThere};
+ghost use Rattle.comparing.specs.Seek.{Sought};
+ghost use Rattle.comparing.specs.Compare.{onlyFirst, onlySecond};
+ghost use Rattle.comparing.specs.Compared.{refused, comparison, compared};
+ghost use Rattle.comparing.specs.Filling.{Lettered};
+ghost use Rattle.comparing.specs.Obstacles.{hindrance};
+ghost use Rattle.comparing.specs.Walk.{whole};
+use lists::Record;
+use lists::Trailer;
+
+// The verdicts.
+pub const SAME: u32 = 256;
+
+pub const ORDER: u32 = 257;
+
+pub const ONLY_FIRST: u32 = 258;
+
+pub const ONLY_SECOND: u32 = 259;
+
+// The refusals: those of the first list as they are, those of the second with this added, and lists of different node counts.
+pub const OF_SECOND: u32 = 16;
+
+pub const NODES_DIFFER: u32 = 28;
+
+// The most records that a list has.
+const MOST_RECORDS: usize = 32762;
+
+// A verdict or a refusal; and the places, from 1, of two records a and b: p and q in the first list, r and s in the second. 0 where there is none.
+pub struct Finding {
+    pub verdict: u32,
+    pub p: u32,
+    pub q: u32,
+    pub r: u32,
+    pub s: u32,
+}
+
+// ---- searches, each for the first place from a start on; the end where there is none
+
+// A record that is not taken.
+fn next_left(letters: &[u8], start: usize) -> usize
+    requires { ⌜ start ≤ length (now letters) ⌝ }
+    ensures { λ r. ⌜ Sought (isLeft (now (letters .entry))) start (length (now (letters .entry))) r ⌝ }
+{
+    let mut i = start;
+    while i < letters.len() {
+        if letters[i] != letters::GONE {
+            return i;
+        }
+        i += 1;
+    }
+    i
+}
+
+// A record that a step with this letter may not pass.
+fn next_stop(letters: &[u8], table: &[u8], letter: u8, start: usize) -> usize
+    requires { ⌜ (length (now table) ≡ tableSize) × (letter < 126) × (start ≤ length (now letters)) ⌝ }
+    ensures { λ r. ⌜ Sought (isStop (now (letters .entry)) (now (table .entry)) letter) start (length (now (letters .entry))) r ⌝ }
+{
+    let row = 256 * (letter as usize);
+    let mut i = start;
+    while i < letters.len() {
+        if table[row + letters[i] as usize] != 1 {
+            return i;
+        }
+        i += 1;
+    }
+    i
+}
+
+fn alike(a: Record, b: Record) -> bool
+    ensures { λ r. ⌜ r ≡ sameEvent (eventOf a) (eventOf b) ⌝ }
+{
+    (a.kind == b.kind) & (a.node == b.node)
+}
+
+// This record, among those of the second list that are not taken.
+fn find_left(letters: &[u8], second: &[u8], trailer: Trailer, event: Record) -> usize
+    requires { ⌜ Trails (now second) trailer × (length (now letters) ≡ trailer .count) ⌝ }
+    ensures { λ r. ⌜ Sought (isThere (now (letters .entry)) (now (second .entry)) (eventOf event)) 0 (trailer .count) r ⌝ }
+{
+    let mut i: usize = 0;
+    while i < trailer.count {
+        let alike = alike(event, lists::read_record(second, trailer.first, i));
+        if (letters[i] != letters::GONE) & alike {
+            return i;
+        }
+        i += 1;
+    }
+    i
+}
+
+// This record, in the first list.
+fn find_record(first: &[u8], trailer: Trailer, start: usize, event: Record) -> usize
+    requires { ⌜ Trails (now first) trailer × (start ≤ trailer .count) ⌝ }
+    ensures { λ r. ⌜ Sought (λ a. sameEvent (recordAt (now (first .entry)) a) (eventOf event)) start (trailer .count) r ⌝ }
+{
+    let mut i = start;
+    while i < trailer.count {
+        if alike(lists::read_record(first, trailer.first, i), event) {
+            return i;
+        }
+        i += 1;
+    }
+    i
+}
+
+// The letters of the second list.
+fn fill_letters(second: &[u8], trailer: Trailer, letters: &mut [u8])
+    requires { ⌜ Trails (now second) trailer × (length (now letters) ≡ trailer .count) ⌝ }
+    ensures { λ _. ⌜ Lettered (now (second .entry)) (now (letters .exit)) (recordCount (now (second .entry))) ⌝ }
+{
+    let mut i: usize = 0;
+    while i < letters.len() {
+        let record = lists::read_record(second, trailer.first, i);
+        letters[i] = letters::letter(record.kind, record.node);
+        i += 1;
+    }
+}
+
+// ---- the comparison
+
+fn only_first(a: usize) -> Finding
+    requires { ⌜ a < 32768 ⌝ }
+    ensures { λ r. ⌜ r ≡ onlyFirst a ⌝ }
+{
+    Finding {
+        verdict: ONLY_FIRST,
+        p: a as u32 + 1,
+        q: 0,
+        r: 0,
+        s: 0,
+    }
+}
+
+fn only_second(b: usize) -> Finding
+    requires { ⌜ b < 32768 ⌝ }
+    ensures { λ r. ⌜ r ≡ onlySecond b ⌝ }
+{
+    Finding {
+        verdict: ONLY_SECOND,
+        p: 0,
+        q: 0,
+        r: 0,
+        s: b as u32 + 1,
+    }
+}
+
+// Record a of the first list may not pass record b of the second.
+fn hindrance(
+    first: &[u8],
+    one: Trailer,
+    second: &[u8],
+    other: Trailer,
+    letters: &[u8],
+    a: usize,
+    b: usize,
+) -> Finding
+    requires { ⌜ Trails (now first) one × Trails (now second) other × (length (now letters) ≡ other .count) × (a < one .count) × (b < other .count) ⌝ }
+    ensures { λ r. ⌜ r ≡ hindrance (one .nodes) (recordAt (now (first .entry))) (recordAt (now (second .entry))) (one .count) (other .count) (now (letters .entry)) a b ⌝ }
+{
+    let found = find_left(
+        letters,
+        second,
+        other,
+        lists::read_record(first, one.first, a),
+    );
+    if found == other.count {
+        return only_first(a);
+    }
+    let blocking = lists::read_record(second, other.first, b);
+    let behind = find_record(first, one, a + 1, blocking);
+    if behind == one.count {
+        return only_second(b);
+    }
+    Finding {
+        verdict: ORDER,
+        p: a as u32 + 1,
+        q: behind as u32 + 1,
+        r: found as u32 + 1,
+        s: b as u32 + 1,
+    }
+}
+
+// Takes the records of the first list out of the second.
+fn walk(
+    first: &[u8],
+    one: Trailer,
+    second: &[u8],
+    other: Trailer,
+    letters: &mut [u8],
+    table: &[u8],
+) -> Finding
+    requires { ⌜ Trails (now first) one × Trails (now second) other × Lettered (now second) (now letters) (recordCount (now second)) × TableFor (one .nodes) (now table) ⌝ }
+    ensures { λ r. ⌜ r ≡ whole (one .nodes) (recordAt (now (first .entry))) (recordAt (now (second .entry))) (one .count) (other .count) ⌝ }
+{
+    let mut start: usize = 0;
+    let mut j: usize = 0;
+    while j < one.count {
+        let event = lists::read_record(first, one.first, j);
+        start = next_left(letters, start);
+        let letter = letters::letter(event.kind, event.node);
+        let at = next_stop(letters, table, letter, start);
+        if at == other.count {
+            return only_first(j);
+        }
+        let met = lists::read_record(second, other.first, at);
+        if !alike(event, met) {
+            return hindrance(first, one, second, other, letters, j, at);
+        }
+        letters[at] = letters::GONE;
+        j += 1;
+    }
+    let at = next_left(letters, start);
+    if at < other.count {
+        return only_second(at);
+    }
+    Finding {
+        verdict: SAME,
+        p: 0,
+        q: 0,
+        r: 0,
+        s: 0,
+    }
+}
+
+// The same, of letters that are yet to be put down.
+fn walk_letters(
+    first: &[u8],
+    one: Trailer,
+    second: &[u8],
+    other: Trailer,
+    letters: &mut [u8],
+    table: &[u8],
+) -> Finding
+    requires { ⌜ Trails (now first) one × Trails (now second) other × (length (now letters) ≡ other .count) × TableFor (one .nodes) (now table) ⌝ }
+    ensures { λ r. ⌜ r ≡ whole (one .nodes) (recordAt (now (first .entry))) (recordAt (now (second .entry))) (one .count) (other .count) ⌝ }
+{
+    fill_letters(second, other, letters);
+    walk(first, one, second, other, letters, table)
+}
+
+// Two lists that are not refused.
+fn compare_good(first: &[u8], one: Trailer, second: &[u8], other: Trailer) -> Finding
+    requires { ⌜ Trails (now first) one × Trails (now second) other ⌝ }
+    ensures { λ r. ⌜ r ≡ comparison (now (first .entry)) (now (second .entry)) ⌝ }
+{
+    let mut table = [0u8; letters::TABLE_SIZE];
+    letters::fill_table(one.nodes, &mut table);
+    let mut letters = [0u8; MOST_RECORDS];
+    let count = other.count;
+    walk_letters(first, one, second, other, &mut letters[..count], &table)
+}
+
+fn refused(code: u32) -> Finding
+    ensures { λ r. ⌜ r ≡ refused code ⌝ }
+{
+    Finding {
+        verdict: code,
+        p: 0,
+        q: 0,
+        r: 0,
+        s: 0,
+    }
+}
+
+// Compares two event lists as merges of the same logs: whether exchanges of independent neighbours lead from the one to the other, and if not, two dependent
+// records that stand in the other order, or a record that one list lacks.
+pub fn compare(first: &[u8], second: &[u8]) -> Finding
+    ensures { λ r. ⌜ r ≡ compared (now (first .entry)) (now (second .entry)) ⌝ }
+{
+    let one = lists::read_trailer(first);
+    if one.code != parts::DONE {
+        return refused(one.code as u32);
+    }
+    let other = lists::read_trailer(second);
+    if other.code != parts::DONE {
+        return refused(OF_SECOND + other.code as u32);
+    }
+    if one.nodes != other.nodes {
+        return refused(NODES_DIFFER);
+    }
+    compare_good(first, one, second, other)
+}

@@ -1,0 +1,3 @@
+pub mod Letters
+pub mod Known
+pub mod Table

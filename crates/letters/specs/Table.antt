@@ -1,0 +1,61 @@
+-- What the table says of the letters of two steps is whether they are independent. Assumes nothing.
+use mathlib.Core.Path.{_≡_, refl, sym, ap, ap₂, _∙_}
+use mathlib.Core.Bool.{Bool, true, false, _||_}
+use mathlib.Core.List.{List}
+use Prim.Native.Nat.{ℕ, _+_, _*_, _/_, _%_, _≤_, _<_}
+use native.Mathlib.Omega.{arith}
+use native.Mathlib.Decide.{decLt}
+use lib.Dec.{eqb}
+use lib.ListN.{length, set, getD, length-set}
+use lib.Seq.{getD-set-same, getD-set-other}
+use borrow.Author.Tests.{ne-eqb}
+use Rattle.rules.specs.Step.{Event}
+use Rattle.merges.specs.Independent.{independent}
+use Rattle.letters.specs.Letters.{letterOf, stepFor, gone, mayPass, tableSize, bit, TableFor, passes}
+use Rattle.letters.specs.Known.{letter-small, by-letters}
+
+bit-one : (b : Bool) → eqb (bit b) 1 ≡ b
+bit-one true = refl
+bit-one false = refl
+
+module _ {count : ℕ} {t : List ℕ} (for : TableFor count t) where
+  pub table-says : (a b : ℕ) → a < 128 → b < 256 → passes t a b ≡ mayPass count a b
+  table-says a b h k =
+      let p : (256 * a + b) / 256 ≡ a = omega arith in
+      let q : (256 * a + b) % 256 ≡ b = omega arith in
+      ap (λ (x : ℕ). eqb x 1) (for .entries (256 * a + b) (omega arith) ∙ ap₂ (λ (x y : ℕ). bit (mayPass count x y)) p q) ∙ bit-one (mayPass count a b)
+
+  -- Every letter may pass a step that is out of the way.
+  pub passes-gone : (a : ℕ) → a < 128 → passes t a gone ≡ true
+  unfolding mayPass
+  passes-gone a h = table-says a gone h (omega arith)
+
+  pub passes-free : count ≤ 8 → (e f : Event) → passes t (letterOf e) (letterOf f) ≡ independent count e f
+  unfolding mayPass
+  passes-free few e f =
+      let a = letter-small e in
+      let b = letter-small f in
+      table-says (letterOf e) (letterOf f) (omega arith) (omega arith)
+      ∙ ap (λ (x : Bool). x || independent count (stepFor (letterOf e)) (stepFor (letterOf f))) (ne-eqb (letterOf f) gone (λ i. omega arith))
+      ∙ by-letters count few e f
+
+-- ---- the table while it is filled
+
+pub record Filled (count : ℕ) (t : List ℕ) (n : ℕ) : Type 0 where
+  pub size : length t ≡ tableSize
+  pub entries : (i : ℕ) → i < n → getD t i 0 ≡ bit (mayPass count (i / 256) (i % 256))
+
+pub filled-more : (count : ℕ) (t : List ℕ) (n v : ℕ) → n < tableSize → v ≡ bit (mayPass count (n / 256) (n % 256)) → Filled count t n → Filled count (set t n v) (n + 1)
+filled-more count t n v h e f = record {
+  size = length-set t n v ∙ f .size;
+  entries = λ i k. go i k (decLt i n);
+}
+  where
+    go : (i : ℕ) → i < n + 1 → Dec (i < n) → getD (set t n v) i 0 ≡ bit (mayPass count (i / 256) (i % 256))
+    go i k (yes l) = getD-set-other t n i v 0 (λ q. omega arith) ∙ f .entries i l
+    go i k (no l) =
+        let q : i ≡ n = omega arith in
+        ap (λ (j : ℕ). getD (set t n v) j 0) q ∙ getD-set-same t n v 0 (let z = f .size in omega arith) ∙ e ∙ ap (λ (j : ℕ). bit (mayPass count (j / 256) (j % 256))) (sym q)
+
+pub filled-all : (count : ℕ) (t : List ℕ) (n : ℕ) → tableSize ≤ n → Filled count t n → TableFor count t
+filled-all count t n h f = record { size = f .size; entries = λ i k. f .entries i (omega arith) }

@@ -1,0 +1,11 @@
+pub mod Verdict
+pub mod Pairs
+pub mod Clocks
+pub mod Own
+pub mod Steps
+pub mod Chains
+pub mod Exact
+pub mod Kept
+pub mod Projections
+pub mod Merging
+pub mod Owned
