@@ -33,8 +33,7 @@ test:
 	@scripts/test
 
 bench: lib
-	host/test.sh >build/test.log 2>&1 || { cat build/test.log; exit 1; }
-	build/host/bench
+	host/bench.sh
 
 install: program reader lib
 	install -d "$(DESTDIR)$(PREFIX)/bin" "$(DESTDIR)$(PREFIX)/include" "$(DESTDIR)$(PREFIX)/lib/pkgconfig"
