@@ -9,5 +9,5 @@ mkdir -p "$out"
 need rustc rustc
 need gcc gcc
 use_library target/staticlib/libhoefspanker.a || exit 1
-build_reference && build_reading && build_bench || exit 1
+build_reference && build_reading && build_judge && build_bench || exit 1
 exec "$out/bench" "$@"

@@ -32,7 +32,7 @@ rust_program() {
 rust_linked() {
     rust -L "$out" -L "native=$out/lib" \
         --extern random --extern reference --extern lists --extern library --extern trial \
-        --extern reading --extern messages --extern calls "$@"
+        --extern reading --extern messages --extern calls --extern judge --extern pairs "$@"
 }
 
 # stand_in HOST FOLDER: the references of HOST, which is laid out as host, under
@@ -42,6 +42,7 @@ stand_in() {
     mkdir -p "$2"
     stand_in_crate "$2" --cap-lints allow --crate-type rlib "$1/reference/lib.rs" &&
         stand_in_crate "$2" --cap-lints allow --crate-type rlib "$1/arbitration/reading/lib.rs" &&
+        stand_in_crate "$2" --cap-lints allow --crate-type rlib "$1/verdict/judge/lib.rs" &&
         stand_in_crate "$2" --crate-type staticlib host/standin/hoefspanker.rs
 }
 
@@ -58,7 +59,7 @@ stand_in_crate() {
     eval "source=\${$#}"
     [ "$(basename "$source")" != lib.rs ] || source=$(dirname "$source")
     rust -C metadata=stand-in --crate-name "$(basename "$source" .rs)" --out-dir "$into" \
-        -L "$into" --extern reference --extern reading "$@"
+        -L "$into" --extern reference --extern reading --extern judge "$@"
 }
 
 # Puts a library where the programs link it from.
@@ -98,3 +99,4 @@ build_header() {
 }
 
 . host/arbitration/build.sh
+. host/verdict/build.sh

@@ -2,7 +2,7 @@
 # Shows that the comparisons find wrong libraries: each line of a table puts one
 # mistake into a copy of a reference, which then stands in for the library.
 # Prints a line a mistake and 'N found, M missed'. Takes some minutes.
-# Usage: host/mutants.sh [lists] [messages], by default all.
+# Usage: host/mutants.sh [lists] [messages] [verdicts] [logs], by default all.
 set -u
 cd "$(dirname "$0")/.." || exit 1
 . host/build.sh
@@ -49,6 +49,16 @@ try_mistakes() {
     done <"$table"
 }
 
+# The programs for merges with the mistake in them.
+build_mutant_programs() {
+    stand_in_program compare "$mutant" && stand_in_program merge_log "$mutant" && build_programs
+}
+
+run_mutant_programs() {
+    "$out/programs" compare "$mutant/compare" "$out/scratch" &&
+        "$out/programs" merges "$mutant/merge_log" "$out/scratch"
+}
+
 try_part() {
     case $1 in
     lists)
@@ -58,6 +68,14 @@ try_part() {
         try_mistakes host/arbitration/mutants.txt host/arbitration/reading \
             build_compare_messages "$out/compare-messages" 1 10000
         ;;
+    verdicts)
+        try_mistakes host/verdict/mutants.txt host/verdict/judge \
+            build_compare_verdicts "$out/compare-verdicts" 1 6000
+        ;;
+    logs)
+        try_mistakes host/verdict/log-mutants.txt host/verdict/judge build_mutant_programs \
+            run_mutant_programs
+        ;;
     *)
         echo "no such part: $1"
         exit 1
@@ -66,8 +84,8 @@ try_part() {
 }
 
 mkdir -p "$out"
-build_reference && build_reading || exit 1
-for part in ${*:-lists messages}; do
+build_reference && build_reading && build_judge || exit 1
+for part in ${*:-lists messages verdicts logs}; do
     try_part "$part"
 done
 echo "$found found, $missed missed"

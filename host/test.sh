@@ -57,6 +57,7 @@ build_library() {
     if [ "$library" = stand-in ]; then
         programs=$out/stand-in
         stand_in host "$programs" && stand_in_program arbitration "$programs" &&
+            stand_in_program compare "$programs" && stand_in_program merge_log "$programs" &&
             use_library "$programs/libhoefspanker.a"
     else
         use_library "$library"
@@ -94,6 +95,12 @@ test_that "comparison of messages built" build_compare_messages
 test_that "comparison with the reading" "$out/compare-messages"
 test_that "protobuf's own messages built" build_peer
 test_that "protobuf's own messages" "$out/peer" "$programs/arbitration"
+test_that "judge of merges built" build_judge
+test_that "unit tests of the judge" "$out/judge-test"
+test_that "comparison of verdicts built" build_compare_verdicts
+test_that "comparison with the judge" "$out/compare-verdicts"
+test_that "programs for merges built" build_programs
+test_that "program for two lists" "$out/programs" compare "$programs/compare" "$out/scratch"
 test_that "C example built" build_example
 test_example valgrind valgrind -q --error-exitcode=9 --leak-check=full "$out/host"
 test_example sanitizers "$out/host-sanitized"

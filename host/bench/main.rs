@@ -1,12 +1,15 @@
 //! Nanoseconds a record, or a message, of the library and of the references, and
 //! the stack that the library needs.
 //!
-//! Usage: bench [ROUNDS]. Both run turn about in one process, each into a
-//! cleared buffer; the least time of all rounds counts.
+//! Usage: bench [ROUNDS [PROGRAM PLAIN]]. Both run turn about in one process,
+//! each into a cleared buffer; the least time of all rounds counts. With the
+//! program for merged logs and the same in plain Rust, these are measured too.
 
+mod logs;
 mod messages;
 mod stack;
 mod turns;
+mod verdicts;
 mod workloads;
 
 use library::Call;
@@ -15,8 +18,8 @@ use workloads::Workload;
 const USUAL_ROUNDS: usize = 60;
 
 fn main() {
-    let rounds = std::env::args().nth(1).and_then(|text| text.parse().ok());
-    let rounds = rounds.unwrap_or(USUAL_ROUNDS);
+    let given: Vec<String> = std::env::args().skip(1).collect();
+    let rounds = given.first().and_then(|text| text.parse().ok()).unwrap_or(USUAL_ROUNDS);
     println!(
         "{:26}{:>8}{:>7}{:>8}{:>11}{:>11}{:>7}{:>13}",
         "workload", "records", "done", "writes", "library", "reference", "ratio", "stack bytes"
@@ -25,6 +28,10 @@ fn main() {
         measure(&workload, rounds);
     }
     messages::measure_all(rounds);
+    verdicts::measure_all(rounds);
+    if let [_, program, plain] = &given[..] {
+        logs::measure_all(rounds, program, plain);
+    }
 }
 
 fn measure(workload: &Workload, rounds: usize) {

@@ -12,6 +12,12 @@
 #if HOEFSPANKER_CUT_SHORT != 13 || HOEFSPANKER_BAD_TAG != 15
 #error "refusals of a message"
 #endif
+#if HOEFSPANKER_SAME != 256 || HOEFSPANKER_ONLY_SECOND != 259
+#error "verdicts"
+#endif
+#if HOEFSPANKER_OF_SECOND != 16 || HOEFSPANKER_NODES_DIFFER != 28
+#error "refusals of two lists"
+#endif
 #if HOEFSPANKER_JOIN != 1 || HOEFSPANKER_STARTUP != 13
 #error "kinds"
 #endif
@@ -40,6 +46,21 @@ static bool runs()
     return refused && ran;
 }
 
+static bool judges()
+{
+    const uint8_t no_records[HOEFSPANKER_TRAILER_BYTES] =
+        {0, 0, 0, 0, 0, 0, 0, 0, 1, 0, 0x4D, 0x41};
+    uint8_t places[HOEFSPANKER_PLACES_BYTES];
+    bool refused = hoefspanker_same_merge(no_records, sizeof no_records, nullptr, 0,
+                                          places, sizeof places)
+        == HOEFSPANKER_OF_SECOND + HOEFSPANKER_BAD_LENGTH;
+    bool judged = hoefspanker_same_merge(no_records, sizeof no_records,
+                                         no_records, sizeof no_records,
+                                         places, sizeof places)
+        == HOEFSPANKER_SAME;
+    return refused && judged && places[0] == 0;
+}
+
 static bool reads()
 {
     const uint8_t message[] = {0x08, 7, 0x12, 0};
@@ -54,5 +75,5 @@ static bool reads()
 
 int main()
 {
-    return runs() && reads() ? 0 : 1;
+    return runs() && reads() && judges() ? 0 : 1;
 }

@@ -9,6 +9,14 @@ extern "C" {
         fields: *mut u8,
         fields_len: usize,
     ) -> u32;
+    fn hoefspanker_same_merge(
+        first: *const u8,
+        first_len: usize,
+        second: *const u8,
+        second_len: usize,
+        places: *mut u8,
+        places_len: usize,
+    ) -> u32;
 }
 
 /// A call that reads one slice and writes another.
@@ -37,6 +45,20 @@ pub fn read_arbitration_with_nulls(message: &[u8], fields: &mut [u8]) -> u32 {
     let (message_len, fields_len) = (message.len(), fields.len());
     let (message, fields) = (start(message), start_mut(fields));
     unsafe { hoefspanker_read_arbitration(message, message_len, fields, fields_len) }
+}
+
+/// Judges two lists by the library.
+pub fn same_merge(first: &[u8], second: &[u8], places: &mut [u8]) -> u32 {
+    let (first_len, second_len, places_len) = (first.len(), second.len(), places.len());
+    let (first, second, places) = (first.as_ptr(), second.as_ptr(), places.as_mut_ptr());
+    unsafe { hoefspanker_same_merge(first, first_len, second, second_len, places, places_len) }
+}
+
+/// As `same_merge`, but an empty slice is lent as NULL.
+pub fn same_merge_with_nulls(first: &[u8], second: &[u8], places: &mut [u8]) -> u32 {
+    let (first_len, second_len, places_len) = (first.len(), second.len(), places.len());
+    let (first, second, places) = (start(first), start(second), start_mut(places));
+    unsafe { hoefspanker_same_merge(first, first_len, second, second_len, places, places_len) }
 }
 
 /// NULL for an empty slice.

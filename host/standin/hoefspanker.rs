@@ -27,6 +27,21 @@ pub unsafe extern "C" fn hoefspanker_read_arbitration(
     reading::read_into(lent(message, message_len), lent_mut(fields, fields_len))
 }
 
+/// # Safety
+/// As `hoefspanker.h` asks of its callers.
+#[no_mangle]
+pub unsafe extern "C" fn hoefspanker_same_merge(
+    first: *const u8,
+    first_len: usize,
+    second: *const u8,
+    second_len: usize,
+    places: *mut u8,
+    places_len: usize,
+) -> u32 {
+    let (first, second) = (lent(first, first_len), lent(second, second_len));
+    judge::same_merge(first, second, lent_mut(places, places_len))
+}
+
 unsafe fn lent<'a>(start: *const u8, len: usize) -> &'a [u8] {
     if len == 0 {
         &[]
