@@ -32,7 +32,7 @@ lib:
 test:
 	@scripts/test
 
-bench: lib
+bench: program lib
 	host/bench.sh
 
 install: program reader lib

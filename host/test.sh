@@ -101,6 +101,7 @@ test_that "comparison of verdicts built" build_compare_verdicts
 test_that "comparison with the judge" "$out/compare-verdicts"
 test_that "programs for merges built" build_programs
 test_that "program for two lists" "$out/programs" compare "$programs/compare" "$out/scratch"
+test_that "program for merged logs" "$out/programs" merges "$programs/merge_log" "$out/scratch"
 test_that "C example built" build_example
 test_example valgrind valgrind -q --error-exitcode=9 --leak-check=full "$out/host"
 test_example sanitizers "$out/host-sanitized"
