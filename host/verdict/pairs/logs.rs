@@ -18,7 +18,7 @@ pub fn merged(random: &mut Random, nodes: u8, len: usize, gap: usize) -> Vec<Log
         time += random.between(0, gap) as u64;
         Logged { line, log: log_of(step), time, step }
     };
-    (2..).zip(&walk.steps).map(|numbered| record(numbered)).collect()
+    (2..).zip(&walk.steps).map(record).collect()
 }
 
 /// Who keeps the record of a step.
