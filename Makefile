@@ -32,9 +32,8 @@ lib:
 test:
 	@scripts/test
 
-bench: lib
-	host/test.sh >build/test.log 2>&1 || { cat build/test.log; exit 1; }
-	build/host/bench
+bench: program lib
+	host/bench.sh
 
 install: programs lib
 	install -d "$(DESTDIR)$(PREFIX)/bin" "$(DESTDIR)$(PREFIX)/include" "$(DESTDIR)$(PREFIX)/lib/pkgconfig"
