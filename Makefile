@@ -1,4 +1,5 @@
 # make run [LIST=file]   prove and build the program, then run an event list (hex text or bytes)
+# make programs          prove and build all programs: target/bin/replay, compare, arbitration
 # make test              the gate: every proof, every must-fail edit, every test
 # make lib               target/staticlib/libhoefspanker.a for a C host
 # make install PREFIX=   the library, its header, its pkg-config file and the programs
@@ -8,16 +9,20 @@ LIST ?= examples/sample.hex
 PREFIX ?= /usr/local
 DESTDIR ?=
 PROGRAM = target/bin/replay
-PROGRAMS = replay compare
+PROGRAMS = replay compare arbitration
 LIBRARY = target/staticlib/libhoefspanker.a
 VERSION = 1.0.0
 
-.PHONY: run program lib test bench install clean
+.PHONY: run program programs lib test bench install clean
 
 run: program
 	@scripts/bytes "$(LIST)" | $(PROGRAM)
 
 program:
+	@mkdir -p build
+	@rt check replay >build/program.log 2>&1 || { cat build/program.log; exit 1; }
+
+programs:
 	@mkdir -p build
 	@rt check $(PROGRAMS) >build/program.log 2>&1 || { cat build/program.log; exit 1; }
 
@@ -27,11 +32,10 @@ lib:
 test:
 	@scripts/test
 
-bench: lib
-	host/test.sh >build/test.log 2>&1 || { cat build/test.log; exit 1; }
-	build/host/bench
+bench: program lib
+	host/bench.sh
 
-install: program lib
+install: programs lib
 	install -d "$(DESTDIR)$(PREFIX)/bin" "$(DESTDIR)$(PREFIX)/include" "$(DESTDIR)$(PREFIX)/lib/pkgconfig"
 	install -m 755 $(PROGRAMS:%=target/bin/%) "$(DESTDIR)$(PREFIX)/bin"
 	install -m 644 include/hoefspanker.h "$(DESTDIR)$(PREFIX)/include"

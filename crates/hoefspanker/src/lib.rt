@@ -1,5 +1,6 @@
 // The calls for a C host: see include/hoefspanker.h.
 ghost use mathlib.Core.Path.{_≡_};
+ghost use Rattle.packed.specs.Bytes.{reported};
 ghost use Rattle.runner.specs.Ran.{ran};
 ghost use Rattle.merging.specs.Told.{told};
 
@@ -21,4 +22,14 @@ pub extern "C" fn hoefspanker_same_merge(first: &[u8], second: &[u8], places: &m
         × (now (places .exit) ≡ told (now (first .entry)) (now (second .entry)) (now (places .entry)) .places) ⌝ }
 {
     merging::same_merge(first, second, places)
+}
+
+// Reads a captured arbitration message: its fields as 40 bytes at the front of the buffer, and the bytes after them stay. Returns 0, or why the message
+// or the buffer is refused, and then leaves every byte of the buffer.
+#[no_mangle]
+pub extern "C" fn hoefspanker_read_arbitration(message: &[u8], fields: &mut [u8]) -> u32
+    ensures { λ r. ⌜ (r ≡ reported (now (message .entry)) (now (fields .entry)) .returned)
+        × (now (fields .exit) ≡ reported (now (message .entry)) (now (fields .entry)) .fields) ⌝ }
+{
+    packed::read_into(message, fields)
 }

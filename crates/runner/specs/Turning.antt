@@ -2,8 +2,8 @@
 use mathlib.Core.Path.{_≡_, refl, sym, ap, subst, _∙_}
 use mathlib.Core.Logic.{_≢_}
 use mathlib.Core.Bool.{Bool, true, false}
-use mathlib.Core.List.{List, []}
-use Prim.Native.Nat.{ℕ, _+_, _*_, _-_, _≤_, _<_}
+use mathlib.Core.List.{List}
+use Prim.Native.Nat.{ℕ, _+_, _*_, _-_, _<_}
 use native.Mathlib.Omega.{arith}
 use lib.ListN.{length, set}
 use lib.Seq.{sets}
@@ -17,12 +17,9 @@ use Rattle.parts.specs.declared.Mastership.{Mastership}
 use Rattle.state.specs.Stores.{storeInbox}
 use Rattle.state.specs.Reads.{inboxOf}
 use Rattle.state.specs.declared.Node.{Node}
-use Rattle.state.specs.declared.Stream.{Stream}
-use Rattle.state.specs.declared.Claims.{Claims}
 use Rattle.state.specs.declared.Wire.{Wire}
 use Rattle.state.specs.declared.Body.{Body}
 use Rattle.state.specs.declared.Table.{Table}
-use Rattle.state.specs.declared.Moved.{Moved}
 use Rattle.moves.specs.Bodies.{stateOf, Ready, Leaves}
 use Rattle.moves.specs.Sets.{withDesk, withNode, withWire}
 use Rattle.moves.specs.Gets.{nodeOf, streamOf}

@@ -9,7 +9,6 @@ use Rattle.rules.specs.Part.{Result}
 use Rattle.state.specs.declared.Body.{Body}
 use Rattle.state.specs.declared.Moved.{Moved}
 use Rattle.moves.specs.Bodies.{Ready, Leaves}
-use Rattle.moves.specs.Stored as Stored
 
 -- A body in range, and one of its nodes.
 pub record At (b : Body) (n : ℕ) : Type 0 where

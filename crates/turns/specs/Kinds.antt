@@ -1,13 +1,13 @@
 -- The kinds by their numbers, as the code tells them apart. Assumes nothing.
 use mathlib.Core.Path.{_≡_, refl, sym, ap, subst, _∙_}
-use mathlib.Core.Logic.{_≢_, _⊎_, inl, inr}
+use mathlib.Core.Logic.{_≢_}
 use mathlib.Core.Bool.{Bool, true, false, cond, _&&_, _||_}
 use mathlib.Core.Option.{Option, none, some}
 use Prim.Native.Nat.{ℕ, zero, suc, _-_, _≤_, _<_}
 use native.Mathlib.Omega.{arith}
 use native.Mathlib.Decide.{ℕ-discrete}
 use lib.Dec.{eqb, leb}
-use borrow.Author.Tests.{eq-eqb, ne-eqb, le-leb, lt-leb}
+use borrow.Author.Tests.{le-leb, lt-leb}
 use Rattle.rules.specs.Codes.{stepDone, unknownKind, unknownNode}
 use Rattle.rules.specs.Range.{within}
 use Rattle.rules.specs.Rules.{Kind, classOf}
@@ -16,7 +16,7 @@ use Rattle.rules.specs.Step.{kindOf, called}
 use Rattle.laws.specs.InRange.{Within}
 use Rattle.laws.specs.Tests.{is-eq, is-within, is-yes}
 use Rattle.turns.specs.declared.Ask.{Ask}
-use Rattle.turns.specs.Turns.{hasNode, rowKind, deskKind, atRow, atDesk, barrierOf, barrier}
+use Rattle.turns.specs.Turns.{hasNode, rowKind, deskKind, atRow, atDesk, barrierOf}
 use Rattle.turns.specs.Asks.{RowKind, DeskKind, WireKind, learns, sendUpdate, receiveUpdate, sendWrite, receiveWrite, connect, handleWrite, join, leave, close, handleUpdate, shutdown, startup}
 
 -- ---- a number within bounds, or not

@@ -1,18 +1,16 @@
 -- Kinds 3 to 7 by the tests that the code makes. Assumes nothing.
 use mathlib.Core.Path.{_≡_, refl, sym, ap, ap₂, _∙_}
-use mathlib.Core.Logic.{_≢_}
-use mathlib.Core.Bool.{Bool, true, false, not, cond, _&&_}
+use mathlib.Core.Bool.{Bool, true, false, not, _&&_}
 use mathlib.Core.List.{List, [], append-nil}
-use Prim.Native.Nat.{ℕ, _-_, _≤_, _<_}
+use Prim.Native.Nat.{ℕ, _-_, _≤_}
 use native.Mathlib.Omega.{arith}
-use lib.Dec.{T, leb}
 use lib.ListN.{getD}
 use lib.Seq.{set-getD}
-use Rattle.rules.specs.Codes.{stepDone, notAllowed, termsSpent, historyFull, queueFull}
-use Rattle.rules.specs.Limits.{queueLength, topId}
+use Rattle.rules.specs.Codes.{stepDone}
+use Rattle.rules.specs.Limits.{topId}
 use Rattle.rules.specs.State as S
-use Rattle.rules.specs.Queues.{first, rest, empty, room}
-use Rattle.rules.specs.Part.{Rule, done, via, need, decide}
+use Rattle.rules.specs.Queues.{first, empty}
+use Rattle.rules.specs.Part.{Rule, via, decide}
 use Rattle.rules.specs.Parts.{Sender, Sent, Receiver, Received, learnPart, sendPart, receivePart}
 use Rattle.rules.specs.Rules.{learns, receiveUpdate, receiveWrite, learnRule, receiveUpdateRule, receiveWriteRule, isUpdate}
 use Rattle.rules.specs.Rules as R
@@ -20,9 +18,8 @@ use Rattle.rules.specs.Step.{act}
 use Rattle.laws.specs.InRange.{AnswerFits, ResponseFits}
 use Rattle.laws.specs.Lists.{queue-first}
 use Rattle.laws.specs.Decide.{Passes}
-use Rattle.seqs.specs.Queue.{room-held}
 use Rattle.seqs.specs.Columns.{column, column-at}
-use Rattle.parts.specs.Hold.{noRequest, packRequest, holdRequest, requestsQueue, holdRequests, holdResponses}
+use Rattle.parts.specs.Hold.{holdResponses}
 use Rattle.state.specs.Hold.{responsesAt, holdCore, holdWire}
 use Rattle.state.specs.Order.{OrderedNode, OrderedStream, pastNode, pastStream}
 use Rattle.state.specs.Reads.{answerOf, inboxOf, senderOf, receiverOf}
@@ -32,11 +29,11 @@ use Rattle.state.specs.declared.Stream.{Stream}
 use Rattle.state.specs.declared.Body.{Body}
 use Rattle.state.specs.declared.Moved.{Moved}
 use Rattle.nodes.specs.Waiting.{sendAnswer, updateWaits, writeWaits, Waits, received}
-use Rattle.moves.specs.Bodies.{stateOf, bodyOf, Ready, Leaves}
+use Rattle.moves.specs.Bodies.{stateOf, Leaves}
 use Rattle.moves.specs.Sets.{withDesk, withNode, withStream}
 use Rattle.moves.specs.Gets.{nodeOf, streamOf, inbox-read, sender-read, receiver-read}
 use Rattle.moves.specs.Stored.{fits-core, in-order-nodes, in-order-wire, inbox-stored-at, sent-stored-at, received-stored-at}
-use Rattle.moves.specs.Acts.{plain, barred-at, refused, done-at, passes}
+use Rattle.moves.specs.Acts.{plain, done-at, passes}
 use Rattle.turns.specs.At.{At, row-in, leaves-as}
 
 module _ (b : Body) (n : ℕ) (a : At b n) where

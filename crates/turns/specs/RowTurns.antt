@@ -1,41 +1,36 @@
 -- Steps at a node and its stream, on a body in range: the answer is the rules', and what is left is what they leave. Assumes nothing.
-use mathlib.Core.Path.{_≡_, refl, sym, ap, ap₂, subst, _∙_}
+use mathlib.Core.Path.{_≡_, refl, sym, ap, subst, _∙_}
 use mathlib.Core.Logic.{_≢_, _⊎_, ⊎-elim}
 use mathlib.Core.Bool.{Bool, true, false, cond}
 use mathlib.Core.List.{List}
-use Prim.Native.Nat.{ℕ, _-_, _≤_, _<_}
+use Prim.Native.Nat.{ℕ, _-_}
 use native.Mathlib.Omega.{arith}
-use lib.Dec.{leb}
-use lib.ListN.{length, getD, set}
+use lib.ListN.{length, set}
 use lib.Seq.{set-getD}
 use Rattle.rules.specs.Codes.{stepDone, notAllowed}
-use Rattle.rules.specs.Limits.{queueLength}
 use Rattle.rules.specs.State as S
 use Rattle.rules.specs.Range.{within}
 use Rattle.rules.specs.Part.{decide}
 use Rattle.rules.specs.Rules as R
 use Rattle.rules.specs.Parts.{Serving}
 use Rattle.rules.specs.Step.{kindOf, act, ofKind}
-use Rattle.state.specs.Order.{pastNode, pastStream}
-use Rattle.state.specs.Reads.{answerOf, inboxOf, senderOf, receiverOf, linkedOf, servedOf}
+use Rattle.state.specs.Order.{pastNode}
+use Rattle.state.specs.Reads.{answerOf, inboxOf, senderOf, servedOf}
 use Rattle.state.specs.Stores.{storeInbox}
 use Rattle.state.specs.declared.Node.{Node}
 use Rattle.state.specs.declared.Stream.{Stream}
-use Rattle.state.specs.declared.Claims.{Claims}
 use Rattle.state.specs.declared.Body.{Body}
 use Rattle.state.specs.declared.Moved.{Moved}
 use Rattle.moves.specs.Bodies.{stateOf, Leaves}
 use Rattle.moves.specs.Sets.{withDesk, withNode, withStream, withLast}
 use Rattle.moves.specs.Gets.{nodeOf, streamOf, inbox-read, sender-read, receiver-read, linked-read, served-read}
 use Rattle.moves.specs.Acts.{plain, passes}
-use Rattle.switch.specs.Asks.{IsNode, AtStream}
 use Rattle.switch.specs.Handled.{storeHandled}
 use Rattle.switch.specs.declared.Handled.{Handled}
 use Rattle.switch.proofs.Callers.{write-can, write-effect, acceptedOf, accepted-back}
 use Rattle.turns.specs.At.{At, row-in}
 use Rattle.turns.specs.Nodes.{node-ordered, stream-ordered, learn-yes, send-yes, receive-update-yes, receive-write-yes, sends, waits}
 use Rattle.turns.specs.Switch.{at-stream, link-yes, serve-yes}
-use Rattle.turns.specs.declared.Ask.{Ask}
 use Rattle.turns.specs.declared.Row.{Row}
 use Rattle.turns.specs.Turns.{rowAnswer, quiet, rowAfter}
 use Rattle.turns.specs.Asks.{RowKind, RowAsks, RowGoes, learns, sendUpdate, receiveUpdate, sendWrite, receiveWrite, connect, handleWrite}

@@ -1,15 +1,13 @@
 -- Kinds 1 and 2 by the tests that the code makes. Assumes nothing.
 use mathlib.Core.Path.{_≡_, refl, sym, ap, ap₂, subst, _∙_}
-use mathlib.Core.Logic.{_≢_}
-use mathlib.Core.Bool.{Bool, true, false, not, cond, _||_}
+use mathlib.Core.Bool.{Bool, true, false, cond}
 use mathlib.Core.List.{List, [], _∷_, map, append-nil}
-use Prim.Native.Nat.{ℕ, _+_, _≤_, _<_}
+use Prim.Native.Nat.{ℕ, _≤_}
 use native.Mathlib.Omega.{arith}
-use lib.Dec.{T, eqb, ltb}
 use lib.ListN.{length, length-append}
 use borrow.Author.Tests.{ne-eqb}
 use Rattle.rules.specs.Codes.{stepDone}
-use Rattle.rules.specs.Limits.{mostNodes, topTerm}
+use Rattle.rules.specs.Limits.{topTerm}
 use Rattle.rules.specs.State as S
 use Rattle.rules.specs.Queues.{push, roomAll}
 use Rattle.rules.specs.Ids.{named}
@@ -35,7 +33,7 @@ use Rattle.service.specs.Asks.{Joins, Leaving}
 use Rattle.moves.specs.Bodies.{stateOf, Leaves}
 use Rattle.moves.specs.Sets.{withDesk}
 use Rattle.moves.specs.Stored.{fits-core, in-order-nodes, in-order-service, desk-stored}
-use Rattle.moves.specs.Acts.{plain, refused, done-at, passes}
+use Rattle.moves.specs.Acts.{plain, done-at, passes}
 use Rattle.turns.specs.At.{At, leaves-as}
 
 -- what the service and its nodes hold

@@ -1,33 +1,29 @@
 -- Kinds 8 to 13 by the tests that the code makes. Assumes nothing.
-use mathlib.Core.Path.{_≡_, refl, sym, ap, ap₂, _∙_}
-use mathlib.Core.Logic.{_≢_}
+use mathlib.Core.Path.{_≡_, refl, sym, ap, _∙_}
 use mathlib.Core.Bool.{Bool, true, false, not}
-use mathlib.Core.List.{List, [], _++_, append-nil}
+use mathlib.Core.List.{List, _++_, append-nil}
 use Prim.Native.Nat.{ℕ, _-_}
-use lib.Dec.{T}
 use lib.ListN.{length}
-use Rattle.rules.specs.Codes.{stepDone, notAllowed}
+use Rattle.rules.specs.Codes.{stepDone}
 use Rattle.rules.specs.State as S
 use Rattle.rules.specs.Part.{Rule, via, decide}
 use Rattle.rules.specs.Parts.{Linked, Told, Telling, Served, Serving, Power, linkPart, tellPart, servePart, powerPart, onDevice}
-use Rattle.rules.specs.Rules.{shutdown, startup, closeRule, closeRoom, closed, idsLeft, opensLeft, responsesLeft, shutdownRule, startupRule, cleared}
+use Rattle.rules.specs.Rules.{shutdown, startup, shutdownRule, startupRule, cleared}
 use Rattle.rules.specs.Step.{act}
 use Rattle.laws.specs.Decide.{Passes}
-use Rattle.state.specs.Hold.{holdCore, holdWire, packStreams, packClaims}
+use Rattle.state.specs.Hold.{holdCore, holdWire}
 use Rattle.state.specs.Reads.{answerOf, linkedOf, toldOf, servedOf, powerOf}
 use Rattle.state.specs.Stores.{storeOpen, storeTelling, storeServing, packWire}
 use Rattle.state.specs.declared.Stream.{Stream}
-use Rattle.state.specs.declared.Claims.{Claims}
 use Rattle.state.specs.declared.Wire.{Wire}
 use Rattle.state.specs.declared.Body.{Body}
 use Rattle.state.specs.declared.Moved.{Moved}
-use Rattle.parts.specs.declared.Term.{Term}
 use Rattle.switch.specs.Asks.{AtWire, AtStream}
-use Rattle.moves.specs.Bodies.{stateOf, bodyOf, acceptedIn, Ready, Leaves}
+use Rattle.moves.specs.Bodies.{stateOf, acceptedIn, Ready, Leaves}
 use Rattle.moves.specs.Sets.{withWire, withStream, withLast}
 use Rattle.moves.specs.Gets.{streamOf, linked-read, served-read}
 use Rattle.moves.specs.Stored.{in-order-wire, open-stored-at, telling-stored, serving-stored-at, power-stored}
-use Rattle.moves.specs.Acts.{plain, barred-at, refused, done-at, passes}
+use Rattle.moves.specs.Acts.{plain, done-at, passes}
 use Rattle.turns.specs.At.{At, row-in, leaves-as}
 
 module _ (b : Body) (n : ℕ) (a : At b n) (history : List S.Write) where

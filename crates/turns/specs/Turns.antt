@@ -23,7 +23,6 @@ use Rattle.nodes.specs.Waiting.{received}
 use Rattle.switch.specs.Handled.{storeHandled}
 use Rattle.switch.specs.declared.Handled.{Handled}
 use Rattle.turns.specs.declared.Ask.{Ask}
-use Rattle.turns.specs.declared.Entry.{Entry}
 use Rattle.turns.specs.declared.Row.{Row}
 
 -- ---- which steps concern what

@@ -2,24 +2,21 @@
 -- they leave. Assumes nothing.
 use mathlib.Core.Path.{_≡_, refl, sym, ap, subst, _∙_}
 use mathlib.Core.Logic.{_≢_, _⊎_, ⊎-elim}
-use mathlib.Core.Bool.{Bool, true, false, not, cond, _&&_, _||_}
+use mathlib.Core.Bool.{Bool, true, false, not, cond}
 use mathlib.Core.Option.{Option, none, some}
 use mathlib.Core.List.{List}
-use Prim.Native.Nat.{ℕ, zero, suc, _≤_, _<_}
+use Prim.Native.Nat.{ℕ, _≤_}
 use native.Mathlib.Omega.{arith}
 use native.Mathlib.Decide.{ℕ-discrete}
-use lib.Dec.{eqb}
 use borrow.Author.Tests.{eq-eqb, ne-eqb}
-use Rattle.rules.specs.Codes.{stepDone, notAllowed, unknownKind, unknownNode}
+use Rattle.rules.specs.Codes.{stepDone, notAllowed, unknownNode}
 use Rattle.rules.specs.State as S
 use Rattle.rules.specs.Range.{within}
-use Rattle.rules.specs.Part.{decide}
 use Rattle.rules.specs.Parts.{Telling}
 use Rattle.rules.specs.Rules as R
 use Rattle.rules.specs.Rules.{Kind, classOf}
 use Rattle.rules.specs.Step.{kindOf, called, atNode, ofKind}
 use Rattle.state.specs.Hold.{holdCore}
-use Rattle.state.specs.Reads.{answerOf, toldOf, powerOf}
 use Rattle.state.specs.Stores.{storeTelling}
 use Rattle.state.specs.declared.Stream.{Stream}
 use Rattle.state.specs.declared.Claims.{Claims}
@@ -30,12 +27,10 @@ use Rattle.moves.specs.Bodies.{stateOf, Ready, Leaves}
 use Rattle.moves.specs.Sets.{withWire}
 use Rattle.moves.specs.Stored.{in-order-wire, few}
 use Rattle.moves.specs.Acts.{plain}
-use Rattle.switch.specs.Asks.{AtWire}
 use Rattle.switch.proofs.Callers.{close-tells, close-effect, update-tells, update-effect}
 use Rattle.turns.specs.At.{At}
 use Rattle.turns.specs.Switch.{at-wire, tell-yes, shutdown-yes, startup-yes}
-use Rattle.turns.specs.declared.Ask.{Ask}
-use Rattle.turns.specs.Turns.{rowKind, deskKind, atRow, atDesk, barrierOf, barrier, switchAnswer, wireAnswer, wireAfter, runsAfter}
+use Rattle.turns.specs.Turns.{atRow, atDesk, barrierOf, barrier, switchAnswer, wireAnswer, wireAfter, runsAfter}
 use Rattle.turns.specs.Asks.{WireKind, WireAsks, WireGoes, close, handleUpdate, shutdown, startup}
 use Rattle.turns.specs.Kinds.{wire-kind, wire-node, wire-none}
 use Rattle.turns.specs.Answers.{shutdown-answer, startup-answer}

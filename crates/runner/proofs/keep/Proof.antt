@@ -1,6 +1,5 @@
 -- `keep` meets its contract. Assumes nothing.
-use mathlib.Core.Path.{_≡_, refl}
-use Prim.Native.Nat.{_+_, _*_}
+use mathlib.Core.Path.{refl}
 use native.Mathlib.Omega.{arith}
 use Rattle.lists.specs.EventList.{historyBytes}
 use borrow.Author.Needs.{needs}

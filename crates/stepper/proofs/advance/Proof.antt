@@ -1,5 +1,5 @@
 -- `advance` meets its contract. Assumes nothing.
-use mathlib.Core.Path.{_≡_, refl, sym, ap, subst, _∙_}
+use mathlib.Core.Path.{sym, _∙_}
 use borrow.Author.Needs.{needs}
 use Rattle.stepper.proofs.advance.Statement.{statement}
 use Rattle.stepper.proofs.advance.Tie as tie

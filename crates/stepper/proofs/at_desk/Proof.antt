@@ -1,6 +1,6 @@
 -- `at_desk` meets its contract. Assumes nothing.
-use mathlib.Core.Path.{_≡_, refl, sym, ap, subst, _∙_}
-use Prim.Native.Nat.{ℕ, _-_, _≤_, _<_}
+use mathlib.Core.Path.{sym, ap, _∙_}
+use Prim.Native.Nat.{_-_}
 use Rattle.rules.specs.Codes.{stepDone}
 use Rattle.rules.specs.Step.{kindOf}
 use Rattle.moves.specs.Stored.{few, in-order-nodes}

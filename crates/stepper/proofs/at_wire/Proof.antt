@@ -1,5 +1,5 @@
 -- `at_wire` meets its contract. Assumes nothing.
-use mathlib.Core.Path.{_≡_, refl, sym, ap, subst, _∙_}
+use mathlib.Core.Path.{sym, ap, _∙_}
 use mathlib.Core.Bool.{Bool}
 use Rattle.rules.specs.Codes.{stepDone}
 use Rattle.rules.specs.Step.{kindOf}

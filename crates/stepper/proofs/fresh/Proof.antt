@@ -1,9 +1,6 @@
 -- `fresh` meets its contract. Assumes nothing.
-use mathlib.Core.Path.{_≡_, refl, sym, ap, _∙_}
 use native.Mathlib.Omega.{arith}
-use Rattle.rules.specs.Range.{within}
 use Rattle.rules.specs.Step.{fresh}
-use borrow.Author.Tests.{le-leb, lt-leb}
 use Rattle.stepper.specs.Public.{freshened}
 use Rattle.stepper.specs.Settling.{blankState}
 use Rattle.turns.specs.Kinds.{inside, under, over}

@@ -1,5 +1,4 @@
 -- `at_desk` meets its contract. Assumes nothing.
-use Prim.Native.Nat.{_≤_, _<_}
 use native.Mathlib.Omega.{arith}
 use borrow.Author.Needs.{needs}
 use Rattle.turns.specs.Kinds.{inside, under, over}

@@ -1,5 +1,4 @@
 -- `desk_code` meets its contract. Assumes nothing.
-use mathlib.Core.Path.{_≡_}
 use borrow.Author.Tests.{eq-eqb, ne-eqb}
 use borrow.Author.Needs.{needs}
 use Rattle.turns.proofs.desk_code.Statement.{statement}

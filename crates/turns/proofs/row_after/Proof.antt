@@ -1,5 +1,5 @@
 -- `row_after` meets its contract. Assumes nothing.
-use mathlib.Core.Path.{_≡_, refl, sym, ap, _∙_}
+use mathlib.Core.Path.{ap, _∙_}
 use mathlib.Core.Logic.{inl, inr}
 use Rattle.turns.specs.Turns.{quiet}
 use Rattle.turns.specs.Kinds.{last-row}

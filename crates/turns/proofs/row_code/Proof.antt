@@ -1,11 +1,10 @@
 -- `row_code` meets its contract. Assumes nothing.
-use mathlib.Core.Path.{_≡_, refl, sym, ap, _∙_}
+use mathlib.Core.Path.{ap, _∙_}
 use mathlib.Core.Bool.{Bool, cond}
 use lib.Dec.{leb}
 use Rattle.rules.specs.Codes.{stepDone, notAllowed}
 use Rattle.rules.specs.Limits.{queueLength}
 use Rattle.nodes.specs.Waiting.{sendAnswer}
-use Rattle.switch.specs.Asks.{AtStream}
 use Rattle.turns.specs.Kinds.{last-row}
 use Rattle.turns.specs.Answers.{learn-answer, send-update-answer, receive-update-answer, send-write-answer, receive-write-answer}
 use borrow.Author.Needs.{needs}

@@ -1,6 +1,5 @@
 -- `switch_code` meets its contract. Assumes nothing.
-use mathlib.Core.Path.{_≡_, refl, sym, ap, _∙_}
-use mathlib.Core.Bool.{Bool, cond}
+use mathlib.Core.Path.{_∙_}
 use mathlib.Core.Logic.{inl, inr}
 use Rattle.turns.specs.Kinds.{last-wire}
 use Rattle.turns.specs.Answers.{close-answer, shutdown-answer, startup-answer}

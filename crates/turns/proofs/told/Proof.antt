@@ -1,10 +1,7 @@
 -- `told` meets its contract. Assumes nothing.
-use mathlib.Core.Path.{_≡_, refl, sym, ap, _∙_}
+use mathlib.Core.Path.{ap, _∙_}
 use borrow.Author.Needs.{needs}
-use Rattle.parts.specs.declared.Term.{Term}
-use Rattle.state.specs.declared.Stream.{Stream}
 use Rattle.turns.specs.Turns.{quiet}
-use Rattle.turns.specs.declared.Row.{Row}
 use Rattle.turns.proofs.told.Statement.{statement}
 use Rattle.turns.proofs.told.Tie as tie
 

@@ -1,5 +1,5 @@
 -- `wire_after` meets its contract. Assumes nothing.
-use mathlib.Core.Path.{_≡_, refl, sym, ap, _∙_}
+use mathlib.Core.Path.{refl}
 use Rattle.turns.specs.Kinds.{last-wire}
 use borrow.Author.Needs.{needs}
 use Rattle.turns.proofs.wire_after.Statement.{statement}

@@ -1,7 +1,6 @@
 -- `written` meets its contract. Assumes nothing.
-use mathlib.Core.Path.{_≡_, refl, sym, ap, _∙_}
+use mathlib.Core.Path.{ap}
 use borrow.Author.Needs.{needs}
-use Rattle.switch.specs.declared.Handled.{Handled}
 use Rattle.turns.specs.Turns.{handledRow}
 use Rattle.turns.proofs.written.Statement.{statement}
 use Rattle.turns.proofs.written.Tie as tie
