@@ -41,7 +41,7 @@ module _ (ns : List ℕ) where
     room-left {l} {m} {at} {a} r p =
         let rest = spaced (drop (i + 1) ns) in
         let all : spaced ns ≡ (spaced (take i ns) ++ ((blank ∷ []) ++ decimal (getD ns i 0))) ++ rest =
-            ap spaced (sym (take-append-drop (i + 1) ns)) ∙ spaced-append (take (i + 1) ns) (drop (i + 1) ns) ∙ ap (λ (x : List ℕ). x ++ rest) one-more in
+        ap spaced (sym (take-append-drop (i + 1) ns)) ∙ spaced-append (take (i + 1) ns) (drop (i + 1) ns) ∙ ap (λ (x : List ℕ). x ++ rest) one-more in
         room-then p (room-first rest (rw all at r))
 
     pub room-blank : {l m : List ℕ} {at a : ℕ} → Room l at (spaced ns) → Put l at (spaced (take i ns)) m a → Room m a (blank ∷ [])

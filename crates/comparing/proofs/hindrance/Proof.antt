@@ -12,7 +12,6 @@ use Rattle.comparing.proofs.hindrance.Tie as tie
 below : {a b : ℕ} → a ≤ b → a ≢ b → a < b
 below h d = omega arith
 
-
 read-record-requires : tie.Need-read-record-requires
 read-record-requires c κs = search needs
 
@@ -23,7 +22,7 @@ only-first-requires : tie.Need-only-first-requires
 only-first-requires c κs = search needs
 
 returns : tie.Need-returns
-returns c = 
+returns c =
     let found = c .before .before .before in
     let start = found .before .before .before .before .before in
     let x = start .args in
@@ -42,7 +41,7 @@ only-second-requires : tie.Need-only-second-requires
 only-second-requires c κs = search needs
 
 returns-2 : tie.Need-returns-2
-returns-2 c = 
+returns-2 c =
     let behind = c .before .before .before in
     let found = behind .before .before .before .before in
     let start = found .before .before .before .before .before in
@@ -76,7 +75,7 @@ add-t21 : tie.Need-add-t21
 add-t21 c = search needs
 
 returns-3 : tie.Need-returns-3
-returns-3 c = 
+returns-3 c =
     let behind = c .before .before in
     let found = behind .before .before .before .before in
     let start = found .before .before .before .before .before in

@@ -1,0 +1,6 @@
+pub mod Text
+pub mod Words
+pub mod Numbers
+pub mod Scan
+pub mod Log
+pub mod Reads
