@@ -55,14 +55,21 @@ module _ (ns : List ℕ) where
 
 -- ---- how long a line is, of numbers that fit 32 bits
 
-pub spaced-width : (ns : List ℕ) → All (λ n. n < 4294967296) ns → length (spaced ns) ≤ 11 * length ns
+spaced-width : (ns : List ℕ) → ((i : ℕ) → getD ns i 0 < 4294967296) → length (spaced ns) ≤ 11 * length ns
 unfolding spaced
 spaced-width [] h = omega arith
 spaced-width (n ∷ ns) h =
-    let w = width n 9 (let k = h .0 in omega arith) in
-    let r = spaced-width ns (h .1) in
+    let w = width n 9 (let k = h 0 in omega arith) in
+    let r = spaced-width ns (λ i. h (suc i)) in
     simp length-append (omega arith)
 
-pub line-width : (word ns : List ℕ) → All (λ n. n < 4294967296) ns → length (line word ns) ≤ length word + 11 * length ns + 1
-unfolding line
-line-width word ns h = let w = spaced-width ns h in simp length-append (omega arith)
+module _ (word ns : List ℕ) (small : (i : ℕ) → getD ns i 0 < 4294967296) where
+  line-width : length (line word ns) ≤ length word + 11 * length ns + 1
+  unfolding line
+  line-width = let w = spaced-width ns small in simp length-append (omega arith)
+
+  pub line-room : {l : List ℕ} {at : ℕ} → at + (length word + 11 * length ns + 1) ≤ length l → Room l at (line word ns)
+  line-room h = record { enough = let w = line-width in omega arith }
+
+  pub line-end : {l m : List ℕ} {at i : ℕ} → Put l at (line word ns) m i → i ≤ at + (length word + 11 * length ns + 1)
+  line-end p = let w = line-width in let z = p .place in omega arith

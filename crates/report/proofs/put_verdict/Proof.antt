@@ -1,0 +1,89 @@
+-- `put_verdict` meets its contract. Assumes nothing.
+use native.Mathlib.Omega.{arith}
+use Rattle.report.specs.Line.{spaced, line}
+use Rattle.report.specs.Says.{put-as, says-same, says-order, says-first, says-second}
+use borrow.Author.Needs.{needs}
+use Rattle.report.proofs.put_verdict.Statement.{statement}
+use Rattle.report.proofs.put_verdict.Tie as tie
+
+slice-aggregate-put-word : tie.Need-slice-aggregate-put-word
+slice-aggregate-put-word c = search needs
+
+put-word-requires : tie.Need-put-word-requires
+put-word-requires c κs = search needs
+
+same-length : tie.Need-same-length
+same-length c = search needs
+
+returns : tie.Need-returns
+unfolding line spaced
+returns c = (put-as (says-same (c .before .before .before .before .before .before .before .before .args .found) (c .before .before .before .before .before .if1 .taken)) (c .before .before .put-word .ensures), omega arith)
+
+slice-aggregate-put-line : tie.Need-slice-aggregate-put-line
+slice-aggregate-put-line c = search needs
+
+slice-aggregate-put-line-2 : tie.Need-slice-aggregate-put-line-2
+slice-aggregate-put-line-2 c = search needs
+
+put-line-requires : tie.Need-put-line-requires
+put-line-requires c κs = search needs
+
+same-length-2 : tie.Need-same-length-2
+same-length-2 c = search needs
+
+returns-2 : tie.Need-returns-2
+returns-2 c = (put-as (says-order (c .before .before .before .before .before .before .before .before .before .before .before .args .found) (c .before .before .before .before .before .before .before .before .if1 .left) (c .before .before .before .before .before .before .if2 .taken)) (c .before .before .put-line .ensures .0), omega arith)
+
+slice-aggregate-put-line-3 : tie.Need-slice-aggregate-put-line-3
+slice-aggregate-put-line-3 c = search needs
+
+slice-aggregate-put-line-4 : tie.Need-slice-aggregate-put-line-4
+slice-aggregate-put-line-4 c = search needs
+
+put-line-requires-2 : tie.Need-put-line-requires-2
+put-line-requires-2 c κs = search needs
+
+same-length-3 : tie.Need-same-length-3
+same-length-3 c = search needs
+
+returns-3 : tie.Need-returns-3
+returns-3 c = (put-as (says-first (c .before .before .before .before .before .before .before .before .before .before .before .before .before .args .found) (c .before .before .before .before .before .before .before .before .before .before .if1 .left) (c .before .before .before .before .before .before .before .before .if2 .left) (c .before .before .before .before .before .before .if3 .taken)) (c .before .before .put-line2 .ensures .0), omega arith)
+
+slice-aggregate-put-line-5 : tie.Need-slice-aggregate-put-line-5
+slice-aggregate-put-line-5 c = search needs
+
+slice-aggregate-put-line-6 : tie.Need-slice-aggregate-put-line-6
+slice-aggregate-put-line-6 c = search needs
+
+put-line-requires-3 : tie.Need-put-line-requires-3
+put-line-requires-3 c κs = search needs
+
+same-length-4 : tie.Need-same-length-4
+same-length-4 c = search needs
+
+returns-4 : tie.Need-returns-4
+returns-4 c = (put-as (says-second (c .before .before .before .before .before .before .before .before .before .before .before .before .before .args .found) (c .before .before .before .before .before .before .before .before .before .before .if1 .left) (c .before .before .before .before .before .before .before .before .if2 .left) (c .before .before .before .before .before .before .if3 .left)) (c .before .before .put-line3 .ensures .0), omega arith)
+
+pub put-verdict-spec : {M : Type 1} → statement M
+put-verdict-spec =
+    tie.close
+    (tie.spec
+    slice-aggregate-put-word
+    put-word-requires
+    same-length
+    returns
+    slice-aggregate-put-line
+    slice-aggregate-put-line-2
+    put-line-requires
+    same-length-2
+    returns-2
+    slice-aggregate-put-line-3
+    slice-aggregate-put-line-4
+    put-line-requires-2
+    same-length-3
+    returns-3
+    slice-aggregate-put-line-5
+    slice-aggregate-put-line-6
+    put-line-requires-3
+    same-length-4
+    returns-4)
