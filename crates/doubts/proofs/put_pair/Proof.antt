@@ -1,0 +1,37 @@
+use borrow.Author.Needs.{needs}
+use Rattle.doubts.proofs.put_pair.Statement.{statement}
+use Rattle.doubts.proofs.put_pair.Tie as tie
+use Rattle.doubts.proofs.put_pair.Reads as reads
+use Rattle.doubts.proofs.put_pair.Lts as lts
+use Rattle.doubts.proofs.put_pair_line.Reads as put-pair-line-reads
+use Rattle.text.proofs.put_word.Reads as put-word-reads
+
+-- src/lib.rt:172:9
+put-pair-line-requires : tie.Need-put-pair-line-requires
+put-pair-line-requires c κs = search needs
+
+-- src/lib.rt:173:31
+slice-aggregate-put-word : tie.Need-slice-aggregate-put-word
+slice-aggregate-put-word c = search needs
+
+-- src/lib.rt:173:5
+put-word-requires : tie.Need-put-word-requires
+put-word-requires c κs = search needs
+
+-- src/lib.rt:168:1
+same-length : tie.Need-same-length
+same-length c = search needs
+
+-- src/lib.rt:168:1
+returns : tie.Need-returns
+returns c = ?
+
+pub put-pair-spec : {M : Type 1} → statement M
+put-pair-spec =
+    tie.close
+    (tie.spec
+    put-pair-line-requires
+    slice-aggregate-put-word
+    put-word-requires
+    same-length
+    returns)
