@@ -4,3 +4,4 @@ pub mod Widths
 pub mod Words
 pub mod Answer
 pub mod Showing
+pub mod Rows

@@ -7,16 +7,16 @@ use native.Mathlib.Omega.{arith}
 use lib.ListN.{length}
 use Rattle.report.specs.Line.{spaced, line}
 use Rattle.report.specs.Words as R
-use Rattle.seqs.specs.Tables.{table-get}
+use Rattle.seqs.specs.Tables.{table-get, table-length}
 use Rattle.comparing.specs.Compare.{from}
 use Rattle.logtext.specs.Log.{Row, rowNumbers}
 use Rattle.text.specs.Put.{Room, Put}
 use Rattle.text.specs.Puts.{put-none, put-then, put-length}
 use Rattle.doubts.specs.declared.Pair.{Pair}
-use Rattle.doubts.specs.Doubts.{noRow, pairs, rowIn, rowsIn}
+use Rattle.doubts.specs.Doubts.{noRow, doubtAt, pairs, rowIn, rowsIn}
 use Rattle.doubts.specs.Search.{pairsFrom, pairs-start, Next}
 use Rattle.doubts.specs.Words as W
-use Rattle.doubts.specs.Answer.{pairLine, shown, mostShown, doubtsText}
+use Rattle.doubts.specs.Answer.{pairLine, pairText, shown, mostShown, doubtsText, logText}
 
 -- The bytes of a pair, at most.
 abbrev pub pairRoom : ℕ
@@ -73,7 +73,7 @@ module _ {f : Pair → List ℕ} {test : ℕ → ℕ → Bool} {n : ℕ} where
       showing-full e q =
           let last : mostShown - k ≡ 0 = omega arith in
           let all : s .done ++ line W.more [] ≡ whole =
-              ap (λ (x : ℕ). s .done ++ shown f x (p ∷ pairsFrom test n (p .x) (p .y + 1))) (sym last) ∙ ap (λ (l : List Pair). s .done ++ shown f (mostShown - k) l) (sym (s .some h)) ∙ s .going in
+          ap (λ (x : ℕ). s .done ++ shown f x (p ∷ pairsFrom test n (p .x) (p .y + 1))) (sym last) ∙ ap (λ (l : List Pair). s .done ++ shown f (mostShown - k) l) (sym (s .some h)) ∙ s .going in
           rw (← all) (put-then (s .put) q)
 
       pub showing-more : k < mostShown → {m : List ℕ} {i : ℕ} → Put after at (f p) m i → i ≤ at + pairRoom → {r : Pair} → Next test n (p .x) (p .y + 1) r
@@ -112,3 +112,17 @@ module _ (f : Pair → List ℕ) (test : ℕ → ℕ → Bool) (n : ℕ) {p : Pa
   pub text-shown : p .x < n → shown f mostShown (pairsFrom test n 0 1) ≡ doubtsText f (pairs test n (from 0 n))
   unfolding doubtsText
   text-shown h = ap (shown f mostShown) (next .first h) ∙ ap (doubtsText f) (sym (pairs-start test n ∙ next .first h))
+
+-- For the first n records that the code's numbers say.
+module _ (count bound : ℕ) (l : List ℕ) {n : ℕ} {p : Pair} (next : Next (doubtAt count bound (rowsIn l n)) n 0 1 p) where
+  all : n ≡ length (rowsIn l n)
+  all = sym (table-length n (rowIn l))
+
+  text-all : doubtsText (pairText (rowsIn l n)) (pairs (doubtAt count bound (rowsIn l n)) n (from 0 n)) ≡ logText count bound (rowsIn l n)
+  text-all = ap (λ (m : ℕ). doubtsText (pairText (rowsIn l n)) (pairs (doubtAt count bound (rowsIn l n)) m (from 0 m))) all
+
+  pub log-same : n ≤ p .x → line R.same [] ≡ logText count bound (rowsIn l n)
+  log-same h = text-same (pairText (rowsIn l n)) (doubtAt count bound (rowsIn l n)) n next h ∙ text-all
+
+  pub log-shown : p .x < n → shown (pairText (rowsIn l n)) mostShown (pairsFrom (doubtAt count bound (rowsIn l n)) n 0 1) ≡ logText count bound (rowsIn l n)
+  log-shown h = text-shown (pairText (rowsIn l n)) (doubtAt count bound (rowsIn l n)) n next h ∙ text-all

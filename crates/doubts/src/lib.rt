@@ -210,14 +210,7 @@ fn put_doubts(
 }
 
 // The text for a log that is not refused.
-fn put_log(
-    buf: &mut [u8],
-    rows: &[u64],
-    n: usize,
-    table: &[u8],
-    nodes: u8,
-    bound: u64,
-) -> usize
+fn put_log(buf: &mut [u8], rows: &[u64], n: usize, table: &[u8], nodes: u8, bound: u64) -> usize
     requires { ⌜ TableFor nodes (now table) × (nodes ≤ 8) × (5 * n ≤ length (now rows)) × (longest ≤ length (now buf)) ⌝ }
     ensures { λ r. ⌜ Put (now (buf .entry)) 0 (logText nodes bound (rowsIn (now (rows .entry)) n)) (now (buf .exit)) r × (r ≤ longest) ⌝ }
 {

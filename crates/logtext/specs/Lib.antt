@@ -3,4 +3,5 @@ pub mod Words
 pub mod Numbers
 pub mod Scan
 pub mod Log
+pub mod Known
 pub mod Reads

@@ -9,7 +9,7 @@ use native.Mathlib.Decide.{decLt}
 use lib.Dec.{leb, ltb}
 use lib.ListN.{length, getD, set, take, drop, length-append, length-drop}
 use lib.Seq.{sets, getD-drop, drop-drop, take-all}
-use borrow.Author.Tests.{ltb-true, le-leb, lt-leb}
+use borrow.Author.Tests.{le-leb, lt-leb}
 use Rattle.rules.specs.Limits.{mostNodes}
 use Rattle.rules.specs.Range.{within}
 use Rattle.text.specs.Put.{Put}
@@ -22,6 +22,7 @@ use Rattle.logtext.specs.declared.Head.{Head}
 use Rattle.logtext.specs.declared.Log.{Log}
 use Rattle.logtext.specs.Text.{isNewline, pieces, lines, lineOf}
 use Rattle.logtext.specs.Words.{first-piece, only-piece}
+use Rattle.logtext.specs.Known.{fits-few}
 use Rattle.logtext.specs.Log.{longestText, mostRecords, Row, fits, rowOn, Part, behind, after, part, Reading, badHead, noHead, headOn, headed, readLines, logOf, readText, rowNumbers, numbersIn}
 
 abbrev pub rowRoom : ℕ
@@ -156,16 +157,6 @@ module _ {text : List ℕ} {start : ℕ} {before rows : List ℕ} {at k count : 
     pub going-stops : t .fits ≡ false → ReadPart (part 0 2 (linesFrom text start)) before rows′ k count
     going-stops e = rw (took .kept e) (all-read (ap (λ (b : Bool). behind (g .done) (after b k (rowOn k line) rest)) (sym e) ∙ next))
 
-    fits-few : (l : Line) → count ≤ mostRecords → fits count l ≡ true → count + length (rowOn k l) ≤ mostRecords
-    fits-few Blank m e = omega arith
-    fits-few (Two a b) m e = absurd (true≢false (sym e))
-    fits-few (Four a b c d) m e = go (ltb count mostRecords) refl e
-      where
-        go : (x : Bool) → ltb count mostRecords ≡ x → x && leb c 255 && leb d 255 ≡ true → count + 1 ≤ mostRecords
-        go true i u = let z = ltb-true count mostRecords i in omega arith
-        go false i u = absurd (true≢false (sym u))
-    fits-few Other m e = absurd (true≢false (sym e))
-
     pub going-more : t .fits ≡ true → Going text start before rows′ (end + 1) (k + 1) (t .count)
     unfolding rest
     going-more e =
@@ -177,7 +168,7 @@ module _ {text : List ℕ} {start : ℕ} {before rows : List ℕ} {at k count : 
           done = g .done ++ rowOn k line;
           place = omega arith;
           number = omega arith;
-          few = rw n (fits-few line (g .few) (sym (took .fitting) ∙ e));
+          few = rw n (fits-few count k line (g .few) (sym (took .fitting) ∙ e));
           counted = n ∙ (let z = g .counted in let y = length-append (g .done) (rowOn k line) in omega arith);
           put = rw (numbers-both (g .done) (rowOn k line)) (put-then (g .put) (took .put e));
           going = ap₂ (λ (c j : ℕ). behind (g .done ++ rowOn k line) (part c j (linesFrom text (end + 1)))) n (add-one k)

@@ -1,10 +1,10 @@
+-- `put_pair` meets its contract. Assumes nothing.
+use native.Mathlib.Omega.{arith}
+use Rattle.text.specs.Puts.{put-then}
+use Rattle.report.specs.Line.{spaced, line}
 use borrow.Author.Needs.{needs}
 use Rattle.doubts.proofs.put_pair.Statement.{statement}
 use Rattle.doubts.proofs.put_pair.Tie as tie
-use Rattle.doubts.proofs.put_pair.Reads as reads
-use Rattle.doubts.proofs.put_pair.Lts as lts
-use Rattle.doubts.proofs.put_pair_line.Reads as put-pair-line-reads
-use Rattle.text.proofs.put_word.Reads as put-word-reads
 
 -- src/lib.rt:172:9
 put-pair-line-requires : tie.Need-put-pair-line-requires
@@ -24,7 +24,8 @@ same-length c = search needs
 
 -- src/lib.rt:168:1
 returns : tie.Need-returns
-returns c = ?
+unfolding line spaced
+returns c = (put-then (c .before .before .before .before .before .before .before .put-pair-line .ensures .0) (c .before .before .put-word .ensures), let z = c .before .before .before .before .before .before .before .put-pair-line .ensures .1 in let w = c .before .before .put-word .ensures .place in omega arith)
 
 pub put-pair-spec : {M : Type 1} → statement M
 put-pair-spec =

@@ -1,9 +1,10 @@
+-- `put_pair_line` meets its contract. Assumes nothing.
+use native.Mathlib.Omega.{arith}
+use Rattle.report.specs.Says.{put-as}
+use Rattle.doubts.specs.Showing.{pair-line}
 use borrow.Author.Needs.{needs}
 use Rattle.doubts.proofs.put_pair_line.Statement.{statement}
 use Rattle.doubts.proofs.put_pair_line.Tie as tie
-use Rattle.doubts.proofs.put_pair_line.Reads as reads
-use Rattle.doubts.proofs.put_pair_line.Lts as lts
-use Rattle.doubts.proofs.put_line.Reads as put-line-reads
 
 -- src/lib.rt:150:13
 mul-x : tie.Need-mul-x
@@ -143,7 +144,7 @@ same-length c = search needs
 
 -- src/lib.rt:146:1
 returns : tie.Need-returns
-returns c = ?
+returns c = let a = c .before .before .before .before .before .before .before .before .before .before .before .before .before .before .before .before .before .before .before .before .args in let p = c .before .before .before .before .before .before .before .before .before .before .before .before .before .before .before .before .before .before .before .before .pre in (put-as (pair-line (a .rows .now) (a .n) (a .pair) (p .1) (p .2)) (c .before .before .put-line .ensures .0), omega arith)
 
 pub put-pair-line-spec : {M : Type 1} → statement M
 put-pair-line-spec =
