@@ -20,6 +20,11 @@ fn open_argument() -> i32 {
     file
 }
 
+// One byte more than the longest log, so that a longer one is seen.
+fn room() -> [u8; logtext::LONGEST + 1] {
+    [0u8; logtext::LONGEST + 1]
+}
+
 fn main() {
     if os::arg_count() != 2 {
         io::write_all(STDOUT_FILENO, b"usage: merges FILE\n");
@@ -30,8 +35,7 @@ fn main() {
         io::write_all(STDOUT_FILENO, b"refused file\n");
         return;
     }
-    // One byte more than the longest log, so that a longer one is seen.
-    let mut log = [0u8; logtext::LONGEST + 1];
+    let mut log = room();
     let n = io::read_full(file, &mut log);
     if LONG < n {
         io::write_all(STDERR_FILENO, b"merges: comparing the records\n");
