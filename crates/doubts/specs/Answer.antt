@@ -1,0 +1,44 @@
+-- What the program prints for the text of a merged log.
+use mathlib.Core.Bool.{cond}
+use mathlib.Core.List.{List, [], _∷_, _++_}
+use Prim.Native.Nat.{ℕ, zero, suc}
+use lib.Dec.{eqb, leb}
+use lib.ListN.{length, getD}
+use Rattle.report.specs.Line.{line}
+use Rattle.report.specs.Words as R
+use Rattle.logtext.specs.Log.{longestText, Row, rowNumbers, Reading, readText}
+use Rattle.doubts.specs.declared.Pair.{Pair}
+use Rattle.doubts.specs.Doubts.{noRow, doubts}
+use Rattle.doubts.specs.Words as W
+
+-- A pair in doubt: line, log, time, kind and node of both records.
+abbrev pub pairLine : List Row → Pair → List ℕ
+pairLine rows p = line W.doubt (rowNumbers (getD rows (p .x) noRow) ++ rowNumbers (getD rows (p .y) noRow))
+
+-- A pair, and what is known of it.
+abbrev pub pairText : List Row → Pair → List ℕ
+pairText rows p = pairLine rows p ++ line W.unsettled []
+
+-- The first so many of them; and whether there are more.
+unfoldable pub shown : (Pair → List ℕ) → ℕ → List Pair → List ℕ
+shown f zero [] = []
+shown f zero (p ∷ ps) = line W.more []
+shown f (suc k) [] = []
+shown f (suc k) (p ∷ ps) = f p ++ shown f k ps
+
+abbrev pub mostShown : ℕ
+mostShown = 16
+
+-- "same" where no pair is in doubt.
+unfoldable pub doubtsText : (Pair → List ℕ) → List Pair → List ℕ
+doubtsText f [] = line R.same []
+doubtsText f (p ∷ ps) = shown f mostShown (p ∷ ps)
+
+abbrev pub logText : ℕ → ℕ → List Row → List ℕ
+logText count bound rows = doubtsText (pairText rows) (doubts count bound rows)
+
+abbrev pub readingText : Reading → List ℕ
+readingText r = cond (eqb (r .refused) 0) (logText (r .nodes) (r .bound) (r .rows)) (line W.refusedLine (r .refused ∷ []))
+
+unfoldable pub answer : List ℕ → List ℕ
+answer text = cond (leb (length text) longestText) (readingText (readText text)) (line W.refusedLong [])

@@ -1,0 +1,80 @@
+-- The code's numbers say the records of a log, and the answer by what the code has found. Assumes nothing.
+use mathlib.Core.Path.{_≡_, refl, sym, ap, _∙_}
+use mathlib.Core.Logic.{_≢_}
+use mathlib.Core.List.{List, [], _∷_, _++_}
+use Prim.Native.Nat.{ℕ, zero, suc, _+_, _*_, _≤_, _<_}
+use native.Mathlib.Nat.{le-of-suc-le-suc}
+use native.Mathlib.Omega.{arith}
+use lib.ListN.{length, getD, drop, length-append}
+use lib.Seq.{sets, sets-eq, length-sets}
+use borrow.Author.Tests.{eq-eqb, ne-eqb, le-leb, lt-leb}
+use Rattle.seqs.specs.Tables.{table-of}
+use Rattle.report.specs.Line.{line}
+use Rattle.logtext.specs.Log.{longestText, Row, readText, rowNumbers, numbersIn, logOf}
+use Rattle.logtext.specs.Known.{few-rows, few-nodes}
+use Rattle.logtext.specs.Reads.{rowRoom}
+use Rattle.logtext.specs.declared.Log.{Log}
+use Rattle.doubts.specs.Doubts.{noRow, rowIn, rowsIn}
+use Rattle.doubts.specs.Words as W
+use Rattle.doubts.specs.Answer.{logText, answer}
+
+-- ---- numbers
+
+numbers-length : (rows : List Row) → length (numbersIn rows) ≡ 5 * length rows
+unfolding numbersIn
+numbers-length [] = omega arith
+numbers-length (r ∷ rows) = let z = numbers-length rows in simp length-append (omega arith)
+
+row-behind : (r : Row) (l : List ℕ) (i : ℕ) → rowIn (rowNumbers r ++ l) (suc i) ≡ rowIn l i
+row-behind r l i =
+    let none : 5 * suc i ≡ suc (suc (suc (suc (suc (5 * i))))) = omega arith in
+    let one : 5 * suc i + 1 ≡ suc (suc (suc (suc (suc (5 * i + 1))))) = omega arith in
+    let two : 5 * suc i + 2 ≡ suc (suc (suc (suc (suc (5 * i + 2))))) = omega arith in
+    let three : 5 * suc i + 3 ≡ suc (suc (suc (suc (suc (5 * i + 3))))) = omega arith in
+    let four : 5 * suc i + 4 ≡ suc (suc (suc (suc (suc (5 * i + 4))))) = omega arith in
+    rw (four, three, two, one, none)
+
+row-written : (rows : List Row) (l : List ℕ) (i : ℕ) → i < length rows → getD rows i noRow ≡ rowIn (numbersIn rows ++ l) i
+unfolding numbersIn
+row-written [] l i h = absurd (omega arith)
+row-written (r ∷ rows) l zero h = refl
+row-written (r ∷ rows) l (suc i) h = row-written rows l i (le-of-suc-le-suc h) ∙ sym (row-behind r (numbersIn rows ++ l) i)
+
+-- The numbers that the code has put down say the records.
+pub rows-said : (rows : List Row) (before after : List ℕ) → 5 * length rows ≤ length before → after ≡ sets before 0 (numbersIn rows) → rowsIn after (length rows) ≡ rows
+rows-said rows before after h e =
+    let n = numbers-length rows in
+    let is : after ≡ numbersIn rows ++ drop (0 + length (numbersIn rows)) before = e ∙ sets-eq (numbersIn rows) before 0 (omega arith) in
+    sym (table-of (length rows) (rowIn after) rows noRow refl (λ i k. row-written rows (drop (0 + length (numbersIn rows)) before) i k ∙ ap (λ (l : List ℕ). rowIn l i) (sym is)))
+
+-- ---- the answer, by what the code has found
+
+pub answer-long : (text : List ℕ) → longestText < length text → line W.refusedLong [] ≡ answer text
+unfolding answer
+answer-long text h = rw (lt-leb (length text) longestText h)
+
+module _ (text : List ℕ) {r : Log} (e : r ≡ logOf (readText text)) (before after : List ℕ) (size : length before ≡ rowRoom) (o : after ≡ sets before 0 (numbersIn (readText text .rows))) where
+  pub read-size : length after ≡ rowRoom
+  read-size = ap length o ∙ length-sets before 0 (numbersIn (readText text .rows)) ∙ size
+
+  pub read-nodes : r .nodes ≤ 8
+  read-nodes = let z = few-nodes text in let y = ap (λ (x : Log). x .nodes) e in omega arith
+
+  pub read-rows : 5 * r .count ≤ length after
+  read-rows = let z = few-rows text in let y = ap (λ (x : Log). x .count) e in let w = read-size in omega arith
+
+  pub read-refused : length text ≤ longestText → r .refused ≢ 0 → line W.refusedLine (r .refused ∷ []) ≡ answer text
+  unfolding answer
+  read-refused h d =
+      let is = ap (λ (x : Log). x .refused) e in
+      rw (le-leb (length text) longestText h, ← is, ne-eqb (r .refused) 0 d)
+
+  pub read-good : length text ≤ longestText → r .refused ≡ 0 → logText (r .nodes) (r .bound) (rowsIn after (r .count)) ≡ answer text
+  unfolding answer
+  read-good h d =
+      let none : readText text .refused ≡ 0 = sym (ap (λ (x : Log). x .refused) e) ∙ d in
+      let few = few-rows text in
+      let rows : rowsIn after (length (readText text .rows)) ≡ readText text .rows = rows-said (readText text .rows) before after (omega arith) o in
+      ap (λ (x : Log). logText (x .nodes) (x .bound) (rowsIn after (x .count))) e
+      ∙ ap (logText (readText text .nodes) (readText text .bound)) rows
+      ∙ rw (le-leb (length text) longestText h, eq-eqb (readText text .refused) 0 none)

@@ -1,0 +1,80 @@
+-- What is known of every log that was read: it has few records, and few nodes. Assumes nothing.
+use mathlib.Core.Path.{_≡_, refl}
+use mathlib.Core.Bool.{Bool, true, false, cond, _&&_}
+use mathlib.Core.List.{List, [], _∷_}
+use Prim.Native.Nat.{ℕ, suc, _+_, _≤_}
+use native.Mathlib.Omega.{arith}
+use lib.Dec.{leb, ltb}
+use lib.ListN.{length, length-append}
+use borrow.Author.Tests.{ltb-true}
+use Rattle.rules.specs.Limits.{mostNodes}
+use Rattle.rules.specs.Range.{within}
+use Rattle.laws.specs.Tests.{is-within}
+use Rattle.logtext.specs.declared.Line.{Line}
+use Rattle.logtext.specs.declared.Line.the-variants.{Blank, Two, Four, Other}
+use Rattle.logtext.specs.declared.Head.{Head}
+use Rattle.logtext.specs.Text.{lines, lineOf}
+use Rattle.logtext.specs.Log.{mostRecords, fits, rowOn, Part, after, part, noHead, headOn, headed, readLines, readText}
+
+pub fits-few : (count k : ℕ) (l : Line) → count ≤ mostRecords → fits count l ≡ true → count + length (rowOn k l) ≤ mostRecords
+fits-few count k Blank h e = omega arith
+fits-few count k (Two a b) h e = omega arith
+fits-few count k (Four a b c d) h e = go (ltb count mostRecords) refl e
+  where
+    go : (x : Bool) → ltb count mostRecords ≡ x → x && leb c 255 && leb d 255 ≡ true → count + 1 ≤ mostRecords
+    go true i u = let z = ltb-true count mostRecords i in omega arith
+    go false i u = absurd (let z : _≡_ {A = ℕ} 0 1 = cc in omega arith)
+fits-few count k Other h e = omega arith
+
+part-few : (count k : ℕ) (ls : List (List ℕ)) → count ≤ mostRecords → count + length (part count k ls .rows) ≤ mostRecords
+unfolding part
+part-few count k [] h = omega arith
+part-few count k (l ∷ ls) h = go (fits count (lineOf l)) refl (part-few (count + length (rowOn k (lineOf l))) (suc k) ls)
+  where
+    rest : Part
+    rest = part (count + length (rowOn k (lineOf l))) (suc k) ls
+
+    go : (b : Bool) → fits count (lineOf l) ≡ b → (count + length (rowOn k (lineOf l)) ≤ mostRecords → count + length (rowOn k (lineOf l)) + length (rest .rows) ≤ mostRecords)
+        → count + length (after b k (rowOn k (lineOf l)) rest .rows) ≤ mostRecords
+    go true e f = let z = f (fits-few count k (lineOf l) h e) in let n = length-append (rowOn k (lineOf l)) (rest .rows) in omega arith
+    go false e f = omega arith
+
+headed-few : (h : Head) (p : Part) → length (p .rows) ≤ mostRecords → length (headed h p .rows) ≤ mostRecords
+headed-few h p k = go (h .good)
+  where
+    go : (b : Bool) → length (headed (record { good = b; nodes = h .nodes; bound = h .bound }) p .rows) ≤ mostRecords
+    go true = k
+    go false = omega arith
+
+pub few-rows : (text : List ℕ) → length (readText text .rows) ≤ mostRecords
+unfolding readText
+few-rows text = go (lines text)
+  where
+    go : (ls : List (List ℕ)) → length (readLines ls .rows) ≤ mostRecords
+    go [] = omega arith
+    go (l ∷ ls) = headed-few (headOn (lineOf l)) (part 0 2 ls) (let z = part-few 0 2 ls (omega arith) in omega arith)
+
+head-nodes : (l : Line) → headOn l .nodes ≤ 8
+head-nodes Blank = omega arith
+head-nodes (Two n d) = go (within 1 mostNodes n) refl
+  where
+    go : (b : Bool) → within 1 mostNodes n ≡ b → cond b (record { good = true; nodes = n; bound = d }) noHead .nodes ≤ 8
+    go true e = let z = is-within 1 mostNodes n .to (rw e tt) .upper in omega arith
+    go false e = omega arith
+head-nodes (Four a b c d) = omega arith
+head-nodes Other = omega arith
+
+headed-nodes : (h : Head) (p : Part) → h .nodes ≤ 8 → headed h p .nodes ≤ 8
+headed-nodes h p k = go (h .good)
+  where
+    go : (b : Bool) → headed (record { good = b; nodes = h .nodes; bound = h .bound }) p .nodes ≤ 8
+    go true = k
+    go false = omega arith
+
+pub few-nodes : (text : List ℕ) → readText text .nodes ≤ 8
+unfolding readText
+few-nodes text = go (lines text)
+  where
+    go : (ls : List (List ℕ)) → readLines ls .nodes ≤ 8
+    go [] = omega arith
+    go (l ∷ ls) = headed-nodes (headOn (lineOf l)) (part 0 2 ls) (head-nodes (lineOf l))

@@ -1,0 +1,106 @@
+-- A merged log as text: the first line has the node count and the clocks' bound, each other line a record or nothing.
+use mathlib.Core.Bool.{Bool, true, false, cond, _&&_}
+use mathlib.Core.List.{List, [], _∷_, _++_}
+use Prim.Native.Nat.{ℕ, suc, _+_}
+use lib.Dec.{leb, ltb}
+use lib.ListN.{length}
+use Rattle.rules.specs.Limits.{mostNodes}
+use Rattle.rules.specs.Range.{within}
+use Rattle.verdict.specs.Clocks.{Logged}
+use Rattle.logtext.specs.declared.Line.{Line}
+use Rattle.logtext.specs.declared.Line.the-variants.{Blank, Two, Four, Other}
+use Rattle.logtext.specs.declared.Head.{Head}
+use Rattle.logtext.specs.declared.Log.{Log}
+use Rattle.logtext.specs.Text.{lines, lineOf}
+
+-- The most bytes of a text, and the most records of a log.
+abbrev pub longestText : ℕ
+longestText = 2097152
+
+abbrev pub mostRecords : ℕ
+mostRecords = 32762
+
+-- A record and the number of its line.
+pub record Row : Type 0 where
+  pub line : ℕ
+  pub logged : Logged
+
+-- ---- one line behind the first
+
+-- Whether a line may stand behind that many records.
+abbrev pub fits : ℕ → Line → Bool
+fits count Blank = true
+fits count (Two a b) = false
+fits count (Four log time kind node) = ltb count mostRecords && leb kind 255 && leb node 255
+fits count Other = false
+
+-- The record on a line, if there is one.
+abbrev pub rowOn : ℕ → Line → List Row
+rowOn k Blank = []
+rowOn k (Two a b) = []
+rowOn k (Four log time kind node) = record { line = k; logged = record { log = log; time = time; event = record { kind = kind; node = node } } } ∷ []
+rowOn k Other = []
+
+-- ---- all of them
+
+-- Records, and the number of the first line that is bad behind them, or 0.
+pub record Part : Type 0 where
+  pub refused : ℕ
+  pub rows : List Row
+
+abbrev pub behind : List Row → Part → Part
+behind rows p = record { refused = p .refused; rows = rows ++ p .rows }
+
+-- Line k holds these records, if it fits; what follows it is p.
+abbrev pub after : Bool → ℕ → List Row → Part → Part
+after true k rows p = behind rows p
+after false k rows p = record { refused = k; rows = [] }
+
+-- The lines from number k on, behind that many records.
+unfoldable pub part : ℕ → ℕ → List (List ℕ) → Part
+part count k [] = record { refused = 0; rows = [] }
+part count k (l ∷ ls) = after (fits count (lineOf l)) k (rowOn k (lineOf l)) (part (count + length (rowOn k (lineOf l))) (suc k) ls)
+
+-- ---- the whole text
+
+pub record Reading : Type 0 where
+  pub refused : ℕ
+  pub nodes : ℕ
+  pub bound : ℕ
+  pub rows : List Row
+
+abbrev pub badHead : Reading
+badHead = record { refused = 1; nodes = 0; bound = 0; rows = [] }
+
+abbrev pub noHead : Head
+noHead = record { good = false; nodes = 0; bound = 0 }
+
+-- What the first line says.
+abbrev pub headOn : Line → Head
+headOn Blank = noHead
+headOn (Two nodes bound) = cond (within 1 mostNodes nodes) (record { good = true; nodes = nodes; bound = bound }) noHead
+headOn (Four a b c d) = noHead
+headOn Other = noHead
+
+abbrev pub headed : Head → Part → Reading
+headed h p = cond (h .good) (record { refused = p .refused; nodes = h .nodes; bound = h .bound; rows = p .rows }) badHead
+
+abbrev pub readLines : List (List ℕ) → Reading
+readLines [] = badHead
+readLines (l ∷ ls) = headed (headOn (lineOf l)) (part 0 2 ls)
+
+unfoldable pub readText : List ℕ → Reading
+readText text = readLines (lines text)
+
+-- ---- what the code answers
+
+-- Five numbers for each record.
+abbrev pub rowNumbers : Row → List ℕ
+rowNumbers r = r .line ∷ r .logged .log ∷ r .logged .time ∷ r .logged .event .kind ∷ r .logged .event .node ∷ []
+
+unfoldable pub numbersIn : List Row → List ℕ
+numbersIn [] = []
+numbersIn (r ∷ rows) = rowNumbers r ++ numbersIn rows
+
+abbrev pub logOf : Reading → Log
+logOf r = record { refused = r .refused; nodes = r .nodes; bound = r .bound; count = length (r .rows) }
