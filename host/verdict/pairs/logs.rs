@@ -14,7 +14,7 @@ pub fn merged(random: &mut Random, nodes: u8, len: usize, gap: usize) -> Vec<Log
     let mut walk = Walk::new(nodes, &mut history);
     walk.wander(random, &Habits::LIFE_CYCLE, len);
     let mut time = 0;
-    let mut record = |(line, &step): (usize, &Step)| {
+    let record = |(line, &step): (usize, &Step)| {
         time += random.between(0, gap) as u64;
         Logged { line, log: log_of(step), time, step }
     };
