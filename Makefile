@@ -1,17 +1,19 @@
 # make run [LIST=file]   prove and build the program, then run an event list (hex text or bytes)
+# make programs          prove and build all programs: target/bin/replay, compare, arbitration
 # make test              the gate: every proof, every must-fail edit, every test
 # make lib               target/staticlib/libhoefspanker.a for a C host
-# make install PREFIX=   the library, its header, its pkg-config file and the program
+# make install PREFIX=   the library, its header, its pkg-config file and the programs
 # make bench             the library against a plain Rust version
 # make clean
 LIST ?= examples/sample.hex
 PREFIX ?= /usr/local
 DESTDIR ?=
 PROGRAM = target/bin/replay
+PROGRAMS = replay compare arbitration
 LIBRARY = target/staticlib/libhoefspanker.a
 VERSION = 1.0.0
 
-.PHONY: run program lib test bench install clean
+.PHONY: run program programs lib test bench install clean
 
 run: program
 	@scripts/bytes "$(LIST)" | $(PROGRAM)
@@ -20,19 +22,22 @@ program:
 	@mkdir -p build
 	@rt check replay >build/program.log 2>&1 || { cat build/program.log; exit 1; }
 
+programs:
+	@mkdir -p build
+	@rt check $(PROGRAMS) >build/program.log 2>&1 || { cat build/program.log; exit 1; }
+
 lib:
 	rt staticlib hoefspanker
 
 test:
 	@scripts/test
 
-bench: lib
-	host/test.sh >build/test.log 2>&1 || { cat build/test.log; exit 1; }
-	build/host/bench
+bench: program lib
+	host/bench.sh
 
-install: program lib
+install: programs lib
 	install -d "$(DESTDIR)$(PREFIX)/bin" "$(DESTDIR)$(PREFIX)/include" "$(DESTDIR)$(PREFIX)/lib/pkgconfig"
-	install -m 755 $(PROGRAM) "$(DESTDIR)$(PREFIX)/bin/replay"
+	install -m 755 $(PROGRAMS:%=target/bin/%) "$(DESTDIR)$(PREFIX)/bin"
 	install -m 644 include/hoefspanker.h "$(DESTDIR)$(PREFIX)/include"
 	install -m 644 $(LIBRARY) "$(DESTDIR)$(PREFIX)/lib"
 	sed -e 's|@PREFIX@|$(PREFIX)|' -e 's|@VERSION@|$(VERSION)|' include/hoefspanker.pc.in >"$(DESTDIR)$(PREFIX)/lib/pkgconfig/hoefspanker.pc"

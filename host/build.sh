@@ -3,35 +3,63 @@
 
 out=build/host
 
+# need COMMAND PACKAGE: installs the package if the command is missing.
+need() {
+    command -v "$1" >/dev/null && return
+    apt-get install -y "$2" || { apt-get update && apt-get install -y "$2"; } || exit 1
+}
+
 rust() {
     rustc --edition 2021 -C opt-level=3 -C codegen-units=1 -D warnings "$@"
 }
 
-# host/CRATE/lib.rs, for the programs.
+# host/FOLDER/lib.rs, for the programs, as a crate with the folder's name.
 rust_library() {
-    rust_linked --crate-type rlib --crate-name "$1" --out-dir "$out" "host/$1/lib.rs"
+    rust_linked --crate-type rlib --crate-name "$(basename "$1")" --out-dir "$out" \
+        "host/$1/lib.rs"
 }
 
-# host/PROGRAM/main.rs, with further arguments for rustc.
+# rust_program FOLDER PROGRAM ..: host/FOLDER/main.rs, with further arguments for
+# rustc.
 rust_program() {
-    program=$1
-    shift
-    rust_linked --crate-name "$program" -o "$out/$program" "$@" "host/$program/main.rs"
+    folder=$1
+    program=$2
+    shift 2
+    rust_linked --crate-name "$(echo "$program" | tr - _)" -o "$out/$program" "$@" \
+        "host/$folder/main.rs"
 }
 
 rust_linked() {
     rust -L "$out" -L "native=$out/lib" \
-        --extern random --extern reference --extern lists --extern library "$@"
+        --extern random --extern reference --extern lists --extern library --extern trial \
+        --extern reading --extern messages --extern calls --extern judge --extern pairs "$@"
 }
 
-# The reference in folder SOURCE under the library's name: stand_in SOURCE FOLDER
-# writes FOLDER/libhoefspanker.a. The metadata keeps its symbols apart from those
-# of the reference that the programs link.
+# stand_in HOST FOLDER: the references of HOST, which is laid out as host, under
+# the library's name in FOLDER/libhoefspanker.a. The metadata keeps their symbols
+# apart from those that the host's programs link.
 stand_in() {
     mkdir -p "$2"
-    rust --cap-lints allow -C metadata=stand-in --crate-type rlib --crate-name reference --out-dir "$2" "$1/lib.rs" &&
-        rust --crate-type staticlib --crate-name hoefspanker --out-dir "$2" \
-            --extern "reference=$2/libreference.rlib" host/standin/lib.rs
+    stand_in_crate "$2" --cap-lints allow --crate-type rlib "$1/reference/lib.rs" &&
+        stand_in_crate "$2" --cap-lints allow --crate-type rlib "$1/arbitration/reading/lib.rs" &&
+        stand_in_crate "$2" --cap-lints allow --crate-type rlib "$1/verdict/judge/lib.rs" &&
+        stand_in_crate "$2" --crate-type staticlib host/standin/hoefspanker.rs
+}
+
+# stand_in_program PROGRAM FOLDER: a program over those references.
+stand_in_program() {
+    stand_in_crate "$2" --crate-type bin "host/standin/$1.rs"
+}
+
+# stand_in_crate FOLDER ARGUMENTS .. SOURCE: a crate named by its file or, if that
+# is lib.rs, by its folder.
+stand_in_crate() {
+    into=$1
+    shift
+    eval "source=\${$#}"
+    [ "$(basename "$source")" != lib.rs ] || source=$(dirname "$source")
+    rust -C metadata=stand-in --crate-name "$(basename "$source" .rs)" --out-dir "$into" \
+        -L "$into" --extern reference --extern reading --extern judge "$@"
 }
 
 # Puts a library where the programs link it from.
@@ -40,18 +68,19 @@ use_library() {
 }
 
 build_reference() {
-    rust_library random && rust_library reference && rust_library lists &&
+    rust_library random && rust_library trial && rust_library reference && rust_library lists &&
         rust_linked --test --crate-name reference_test -o "$out/reference-test" \
             host/reference/lib.rs
 }
 
 build_compare() {
-    rust_library library && rust_program compare
+    rust_library library && rust_program compare compare
 }
 
 build_bench() {
-    c_object -O2 -c host/bench/stack.c -o "$out/stack.o" &&
-        rust_program bench -C "link-arg=$out/stack.o"
+    rust_library library &&
+        c_object -O2 -c host/bench/stack.c -o "$out/stack.o" &&
+        rust_program bench bench -C "link-arg=$out/stack.o"
 }
 
 c_object() {
@@ -68,3 +97,6 @@ build_header() {
     g++ -std=c++11 -Wall -Wextra -Wpedantic -Werror -Iinclude -o "$out/header" \
         host/header/header.cpp "$out/lib/libhoefspanker.a"
 }
+
+. host/arbitration/build.sh
+. host/verdict/build.sh

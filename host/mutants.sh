@@ -1,8 +1,8 @@
 #!/bin/sh
-# Shows that the comparison finds wrong libraries: each line of host/mutants.txt
-# puts one mistake into a copy of the reference, which then stands in for the
-# library. Prints a line a mistake and 'N found, M missed'.
-# Takes some minutes.
+# Shows that the comparisons find wrong libraries: each line of a table puts one
+# mistake into a copy of a reference, which then stands in for the library.
+# Prints a line a mistake and 'N found, M missed'. Takes some minutes.
+# Usage: host/mutants.sh [lists] [messages] [verdicts] [logs], by default all.
 set -u
 cd "$(dirname "$0")/.." || exit 1
 . host/build.sh
@@ -11,35 +11,82 @@ mutant=$out/mutant
 found=0
 missed=0
 
-# A copy of the reference with the mistake in it, under the library's name.
+# build_mutant FILE EDIT BUILD: the host's folder with the mistake in it, under the
+# library's name, and the comparison with it.
 build_mutant() {
     rm -rf "$mutant"
     mkdir -p "$mutant"
-    cp -r host/reference "$mutant/reference"
-    sed -i "$2" "$mutant/reference/$1"
-    if cmp -s "host/reference/$1" "$mutant/reference/$1"; then
+    cp -r host "$mutant/host"
+    sed -i "$2" "$mutant/$1" || return 1
+    if cmp -s "$1" "$mutant/$1"; then
         echo "the edit changes nothing: $2"
         return 1
     fi
-    stand_in "$mutant/reference" "$mutant" && use_library "$mutant/libhoefspanker.a" && build_compare
+    stand_in "$mutant/host" "$mutant" && use_library "$mutant/libhoefspanker.a" && "$3"
+}
+
+# try_mistakes TABLE FOLDER BUILD COMPARISON ..: the mistakes of a table in the files
+# of a folder, each looked for by a comparison.
+try_mistakes() {
+    table=$1
+    sources=$2
+    build=$3
+    shift 3
+    while IFS='|' read -r mistake file edit; do
+        build_mutant "$sources/$file" "$edit" "$build" || exit 1
+        "$@" >"$out/log" 2>&1
+        # 0 and 2 mean no difference; above that, the mistake ended the program.
+        case $? in
+        0 | 2)
+            missed=$((missed + 1))
+            echo "MISSED  $mistake"
+            ;;
+        *)
+            found=$((found + 1))
+            echo "found   $mistake: $(tail -1 "$out/log")"
+            ;;
+        esac
+    done <"$table"
+}
+
+# The programs for merges with the mistake in them.
+build_mutant_programs() {
+    stand_in_program compare "$mutant" && stand_in_program merge_log "$mutant" && build_programs
+}
+
+run_mutant_programs() {
+    "$out/programs" compare "$mutant/compare" "$out/scratch" &&
+        "$out/programs" merges "$mutant/merge_log" "$out/scratch"
+}
+
+try_part() {
+    case $1 in
+    lists)
+        try_mistakes host/mutants.txt host/reference build_compare "$out/compare" 1 10000
+        ;;
+    messages)
+        try_mistakes host/arbitration/mutants.txt host/arbitration/reading \
+            build_compare_messages "$out/compare-messages" 1 10000
+        ;;
+    verdicts)
+        try_mistakes host/verdict/mutants.txt host/verdict/judge \
+            build_compare_verdicts "$out/compare-verdicts" 1 6000
+        ;;
+    logs)
+        try_mistakes host/verdict/log-mutants.txt host/verdict/judge build_mutant_programs \
+            run_mutant_programs
+        ;;
+    *)
+        echo "no such part: $1"
+        exit 1
+        ;;
+    esac
 }
 
 mkdir -p "$out"
-build_reference || exit 1
-while IFS='|' read -r mistake file edit; do
-    build_mutant "$file" "$edit" || exit 1
-    "$out/compare" 1 10000 >"$out/log" 2>&1
-    # 0 and 2 mean no difference; above that, the mistake ended the program.
-    case $? in
-    0 | 2)
-        missed=$((missed + 1))
-        echo "MISSED  $mistake"
-        ;;
-    *)
-        found=$((found + 1))
-        echo "found   $mistake: $(tail -1 "$out/log")"
-        ;;
-    esac
-done <host/mutants.txt
+build_reference && build_reading && build_judge || exit 1
+for part in ${*:-lists messages verdicts logs}; do
+    try_part "$part"
+done
 echo "$found found, $missed missed"
 [ "$missed" -eq 0 ]

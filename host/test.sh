@@ -1,12 +1,15 @@
 #!/bin/sh
-# Builds the host programs and runs all tests of the C call.
+# Builds the host programs and runs all tests of the C calls and of the programs
+# that are fed by a test.
 # Usage: host/test.sh [LIBRARY], with the path of libhoefspanker.a, by default the
 # one that `rt staticlib hoefspanker` writes; or host/test.sh stand-in, which takes
-# the reference in its place. Missing Debian packages are installed.
+# the references in its place. The programs are taken from $PROGRAMS, by default
+# where `rt check` writes them. Missing Debian packages are installed.
 set -u
 cd "$(dirname "$0")/.." || exit 1
 . host/build.sh
 library=${1:-target/staticlib/libhoefspanker.a}
+programs=${PROGRAMS:-target/bin}
 passed=0
 failed=0
 
@@ -22,12 +25,6 @@ test_that() {
         echo "FAILED  $name"
         cat "$out/log"
     fi
-}
-
-# need COMMAND PACKAGE: installs the package if the command is missing.
-need() {
-    command -v "$1" >/dev/null && return
-    apt-get install -y "$2" || { apt-get update && apt-get install -y "$2"; } || exit 1
 }
 
 # The counts as the last line, and the exit status.
@@ -58,7 +55,10 @@ refuses_long() {
 
 build_library() {
     if [ "$library" = stand-in ]; then
-        stand_in host/reference "$out/stand-in" && use_library "$out/stand-in/libhoefspanker.a"
+        programs=$out/stand-in
+        stand_in host "$programs" && stand_in_program arbitration "$programs" &&
+            stand_in_program compare "$programs" && stand_in_program merge_log "$programs" &&
+            use_library "$programs/libhoefspanker.a"
     else
         use_library "$library"
     fi
@@ -82,12 +82,26 @@ need gcc gcc
 need g++ g++
 need valgrind valgrind
 need xxd xxd
+need protoc protobuf-compiler
 test_that "library: $library" build_library
 [ "$failed" -eq 0 ] || finish
 test_that "reference built" build_reference
 test_that "unit tests of the reference" "$out/reference-test"
 test_that "comparison built" build_compare
 test_that "comparison with the reference" "$out/compare"
+test_that "reading of messages built" build_reading
+test_that "unit tests of the reading" "$out/reading-test"
+test_that "comparison of messages built" build_compare_messages
+test_that "comparison with the reading" "$out/compare-messages"
+test_that "protobuf's own messages built" build_peer
+test_that "protobuf's own messages" "$out/peer" "$programs/arbitration"
+test_that "judge of merges built" build_judge
+test_that "unit tests of the judge" "$out/judge-test"
+test_that "comparison of verdicts built" build_compare_verdicts
+test_that "comparison with the judge" "$out/compare-verdicts"
+test_that "programs for merges built" build_programs
+test_that "program for two lists" "$out/programs" compare "$programs/compare" "$out/scratch"
+test_that "program for merged logs" "$out/programs" merges "$programs/merge_log" "$out/scratch"
 test_that "C example built" build_example
 test_example valgrind valgrind -q --error-exitcode=9 --leak-check=full "$out/host"
 test_example sanitizers "$out/host-sanitized"

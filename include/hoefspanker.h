@@ -1,5 +1,6 @@
 /* Runs a list of P4Runtime mastership arbitration events: 1 to 8 controller
- * nodes, one election service and one switch, from a fresh state.
+ * nodes, one election service and one switch, from a fresh state. And reads a
+ * captured arbitration message.
  *
  * Link with libhoefspanker.a. The library needs no start-up call, allocates
  * nothing, keeps nothing between calls and may be called from any thread. */
@@ -61,10 +62,51 @@
 #define HOEFSPANKER_BAD_MARK 9         /* last two bytes not 4D 41, or the zero byte not 0 */
 #define HOEFSPANKER_BAD_NODE_COUNT 10  /* node count not 1 to 8 */
 #define HOEFSPANKER_BAD_EXTENT 11      /* first + 2 * count + 12 is not the length */
-#define HOEFSPANKER_OUT_TOO_SHORT 12   /* output shorter than count + 4,096 bytes */
+#define HOEFSPANKER_OUT_TOO_SHORT 12   /* output shorter than count + 4,096 bytes; of places, than 8 */
+
+/* Verdicts on two lists as merges of the same logs. */
+#define HOEFSPANKER_SAME 256        /* the same writes are accepted, each record keeps its answer */
+#define HOEFSPANKER_ORDER 257       /* two dependent records stand in the other order */
+#define HOEFSPANKER_ONLY_FIRST 258  /* the second list lacks a record of the first */
+#define HOEFSPANKER_ONLY_SECOND 259 /* the first list lacks a record of the second */
+
+/* Refusals of two lists, beside 8 to 12 above: those of the second list are its
+ * 8 to 11 with HOEFSPANKER_OF_SECOND added. */
+#define HOEFSPANKER_OF_SECOND 16
+#define HOEFSPANKER_NODES_DIFFER 28 /* the node counts of the two lists differ */
+
+/* Bytes of the places that a verdict names. */
+#define HOEFSPANKER_PLACES_BYTES 8
 
 /* The least number that a run returns: this one plus the number of writes. */
 #define HOEFSPANKER_RAN 256
+
+/* The fields of an arbitration message, MasterArbitrationUpdate of
+ * p4runtime.proto 1.0.0, are put as 40 bytes, numbers with the least byte
+ * first. A scalar that is absent is 0. The status code is the low 32 bits of
+ * what stands on the wire, signed: its 4 bytes are an int32_t in two's
+ * complement. A flag is 1 if the message has the embedded message, else 0. */
+#define HOEFSPANKER_FIELD_BYTES 40
+#define HOEFSPANKER_DEVICE_ID_AT 0           /* 8 bytes */
+#define HOEFSPANKER_ROLE_ID_AT 8             /* 8 bytes */
+#define HOEFSPANKER_ELECTION_ID_HIGH_AT 16   /* 8 bytes */
+#define HOEFSPANKER_ELECTION_ID_LOW_AT 24    /* 8 bytes */
+#define HOEFSPANKER_STATUS_CODE_AT 32        /* 4 bytes, signed */
+#define HOEFSPANKER_HAS_ROLE_AT 36           /* 1 byte, 1 or 0 */
+#define HOEFSPANKER_HAS_ELECTION_ID_AT 37    /* 1 byte, 1 or 0 */
+#define HOEFSPANKER_HAS_STATUS_AT 38         /* 1 byte, 1 or 0 */
+                                             /* the last byte is 0 */
+
+/* Refusals of a message: its first fault from the front, those of an embedded
+ * message where it stands. */
+#define HOEFSPANKER_CUT_SHORT 13       /* it ends too early, or a length passes its parent */
+#define HOEFSPANKER_NUMBER_TOO_LARGE 14  /* the tenth byte of a number is above 1 */
+#define HOEFSPANKER_BAD_TAG 15         /* wire type not 0, 1, 2 or 5, or field number
+                                          not 1 to 536,870,911 */
+/* And then, of the buffer: HOEFSPANKER_OUT_TOO_SHORT, shorter than 40 bytes. */
+
+/* What a message that was read returns. */
+#define HOEFSPANKER_READ 0
 
 #ifdef __cplusplus
 extern "C" {
@@ -87,6 +129,49 @@ extern "C" {
  * as it was. The bytes of `list` are never changed. */
 uint32_t hoefspanker_run(const uint8_t *list, size_t list_len,
                          uint8_t *out, size_t out_len);
+
+/* Reads the `message_len` bytes at `message`, one MasterArbitrationUpdate in
+ * protobuf's wire format, and puts its fields into the `fields_len` bytes at
+ * `fields`. Unknown fields, and known ones of another wire type, are skipped;
+ * the last of a repeated scalar wins; an embedded message given twice is merged.
+ *
+ * The caller owes the same as above, of `message` and `fields`. A message may
+ * have any length.
+ *
+ * The caller gets HOEFSPANKER_READ, the fields in the first 40 bytes of
+ * `fields`, and the bytes after them as they were. For a message or a buffer
+ * that is refused: the refusal, and `fields` stays as it was. A message that
+ * cannot be read is refused before a buffer that is too short. The bytes of
+ * `message` are never changed. */
+uint32_t hoefspanker_read_arbitration(const uint8_t *message, size_t message_len,
+                                      uint8_t *fields, size_t fields_len);
+
+/* Compares the lists `first` and `second`: do exchanges of neighbouring
+ * independent records lead from the one to the other? Then both accept the same
+ * writes and every record has the same answer in both.
+ *
+ * The caller owes the same of each pointer and length as above; `places` does
+ * not overlap the lists, which may overlap each other.
+ *
+ * Where a verdict is given, one of the four above is returned, and the first 8
+ * bytes of `places` are four places P, Q, R, S, two bytes each with the least
+ * byte first; places count records from 1, and 0 is no place. The bytes after
+ * them stay as they were.
+ *   HOEFSPANKER_SAME         0 0 0 0
+ *   HOEFSPANKER_ORDER        records P and Q of the first list, P before Q, depend
+ *                            on one another and stand at R and S in the second,
+ *                            S before R
+ *   HOEFSPANKER_ONLY_FIRST   P 0 0 0: the second list lacks record P of the first
+ *   HOEFSPANKER_ONLY_SECOND  0 0 0 S: the first list lacks record S of the second
+ *
+ * Otherwise a refusal is returned and `places` stays as it was: the first
+ * list's 8 to 11; 12 where `places_len` is below 8; the second list's, 24 to 27;
+ * 28 where the node counts differ. Of several the lowest.
+ *
+ * The call takes about 70 KB of stack. */
+uint32_t hoefspanker_same_merge(const uint8_t *first, size_t first_len,
+                                const uint8_t *second, size_t second_len,
+                                uint8_t *places, size_t places_len);
 
 #ifdef __cplusplus
 }

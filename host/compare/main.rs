@@ -17,18 +17,15 @@ use std::time::Instant;
 use cases::Case;
 use random::Random;
 use reached::Reached;
+use trial::Arguments;
 
-const USUAL_SEED: u64 = 1;
 const USUAL_NUMBER: usize = 40_000;
 
 fn main() -> ExitCode {
-    let (seed, number) = match arguments() {
-        Some(arguments) => arguments,
-        None => {
-            eprintln!("usage: compare [SEED [NUMBER]]");
-            return ExitCode::from(2);
-        }
-    };
+    trial::run_with_arguments("compare", USUAL_NUMBER, compare)
+}
+
+fn compare(Arguments { seed, number }: Arguments) -> ExitCode {
     let start = Instant::now();
     let (reached, differing) = compare_all(seed, number);
     let missing = reached.print();
@@ -37,18 +34,7 @@ fn main() -> ExitCode {
         print_difference(shrink::shrink(case));
     }
     println!("{number} lists compared, {} differences", differing.len());
-    match (differing.is_empty(), missing) {
-        (false, _) => ExitCode::from(1),
-        (true, 0) => ExitCode::SUCCESS,
-        _ => ExitCode::from(2),
-    }
-}
-
-fn arguments() -> Option<(u64, usize)> {
-    let given: Vec<String> = std::env::args().skip(1).collect();
-    let seed = given.first().map_or(Some(USUAL_SEED), |text| text.parse().ok())?;
-    let number = given.get(1).map_or(Some(USUAL_NUMBER), |text| text.parse().ok())?;
-    Some((seed, number)).filter(|_| given.len() <= 2)
+    trial::status(differing.len(), missing)
 }
 
 /// What the lists reached, and the cases that differ.
@@ -71,8 +57,6 @@ fn compare_all(seed: u64, number: usize) -> (Reached, Vec<Case>) {
 fn print_difference(case: Case) {
     let (_, difference) = lent::compare(&case);
     println!("smallest list that differs, with {} bytes of output:", case.room);
-    for line in case.list.chunks(32) {
-        println!("{}", line.iter().map(|byte| format!("{byte:02X}")).collect::<Vec<_>>().join(" "));
-    }
+    print!("{}", trial::hex(&case.list));
     println!("{}", difference.unwrap_or_default());
 }

@@ -4,6 +4,7 @@ use reference::codes::answer_byte;
 use reference::kinds::*;
 use reference::limits::{HISTORY_BYTES, LONGEST_LIST, MARK, RAN, RECORD_BYTES, TRAILER_BYTES};
 use reference::{EventList, State};
+use trial::{marks, Counts};
 
 use crate::before::Before;
 use crate::cases::Case;
@@ -26,15 +27,6 @@ const ANSWERS: [(u8, &str, &[usize]); 14] = [
     (SHUTDOWN, "shutdown", &[0, 3, 4]),
     (STARTUP, "startup", &[0, 3, 4]),
 ];
-
-/// Declares the marks, every one of which a comparison must reach.
-macro_rules! marks {
-    ($($mark:ident $name:literal,)*) => {
-        #[derive(Clone, Copy)]
-        pub enum Mark { $($mark),* }
-        const NAMES: &[&str] = &[$($name),*];
-    };
-}
 
 marks! {
     TooShort "refused 8, too short",
@@ -83,16 +75,16 @@ marks! {
 pub struct Reached {
     /// By kind, 0 for those that do not exist, and answer.
     answers: [[u64; 8]; ANSWERS.len()],
-    marks: Vec<u64>,
+    marks: Counts,
 }
 
 impl Reached {
     pub fn nothing() -> Self {
-        Reached { marks: vec![0; NAMES.len()], ..Default::default() }
+        Reached { marks: Counts::of(NAMES), ..Default::default() }
     }
 
     pub fn mark(&mut self, mark: Mark, holds: bool) {
-        self.marks[mark as usize] += u64::from(holds);
+        self.marks.mark(mark, holds);
     }
 
     pub fn records(&self) -> u64 {
@@ -106,23 +98,16 @@ impl Reached {
             let counts = self.answers[usize::from(kind)];
             println!("{name:16}{}", counts.map(|count| format!("{count:11}")).concat());
         }
-        for (name, count) in NAMES.iter().zip(&self.marks) {
-            println!("{count:11} {name}");
-        }
-        let missing = self.missing();
-        for name in &missing {
-            println!("not reached: {name}");
-        }
-        missing.len()
+        self.marks.print();
+        self.marks.print_missing(&self.missing_answers())
     }
 
-    fn missing(&self) -> Vec<String> {
+    fn missing_answers(&self) -> Vec<String> {
         let kinds = ANSWERS.iter().flat_map(|&(kind, name, answers)| {
             let unseen = move |&&answer: &&usize| self.answers[usize::from(kind)][answer] == 0;
             answers.iter().filter(unseen).map(move |answer| format!("{name} {answer}"))
         });
-        let marks = NAMES.iter().zip(&self.marks).filter(|(_, &count)| count == 0);
-        kinds.chain(marks.map(|(name, _)| name.to_string())).collect()
+        kinds.collect()
     }
 
     /// Counts what a list reached for which the reference returned `result`.

@@ -10,7 +10,7 @@ use crate::lent::compare;
 /// Drops notes and records as long as the library and the reference differ. A
 /// list with a bad trailer stays as it is.
 pub fn shrink(case: &Case) -> Case {
-    let (mut steps, nodes) = match EventList::read(&case.list) {
+    let (steps, nodes) = match EventList::read(&case.list) {
         Ok(list) => (steps_of(list.records), list.nodes),
         Err(_) => return case.clone(),
     };
@@ -18,29 +18,8 @@ pub fn shrink(case: &Case) -> Case {
     if !differs(&smaller(&steps)) {
         return case.clone();
     }
-    let mut size = steps.len();
-    while size > 0 {
-        let before = steps.len();
-        drop_runs(&mut steps, size, |steps| differs(&smaller(steps)));
-        if size > 1 || steps.len() == before {
-            size /= 2;
-        }
-    }
+    let steps = trial::shrunk(steps, |steps| differs(&smaller(steps)));
     smaller(&steps)
-}
-
-/// Drops each run of `size` steps that is not needed, the last ones first.
-fn drop_runs(steps: &mut Vec<Step>, size: usize, differs: impl Fn(&[Step]) -> bool) {
-    let mut end = steps.len();
-    while end > 0 {
-        let start = end.saturating_sub(size);
-        let mut fewer = steps.clone();
-        fewer.drain(start..end);
-        if differs(&fewer) {
-            *steps = fewer;
-        }
-        end = start;
-    }
 }
 
 fn differs(case: &Case) -> bool {

@@ -1,5 +1,5 @@
 // The header in C++: included twice, its numbers read by the preprocessor and
-// the compiler, and the call linked.
+// the compiler, and the calls linked.
 #include "hoefspanker.h"
 #include "hoefspanker.h"
 
@@ -8,6 +8,15 @@
 #endif
 #if HOEFSPANKER_BAD_LENGTH != 8 || HOEFSPANKER_OUT_TOO_SHORT != 12
 #error "refusals"
+#endif
+#if HOEFSPANKER_CUT_SHORT != 13 || HOEFSPANKER_BAD_TAG != 15
+#error "refusals of a message"
+#endif
+#if HOEFSPANKER_SAME != 256 || HOEFSPANKER_ONLY_SECOND != 259
+#error "verdicts"
+#endif
+#if HOEFSPANKER_OF_SECOND != 16 || HOEFSPANKER_NODES_DIFFER != 28
+#error "refusals of two lists"
 #endif
 #if HOEFSPANKER_JOIN != 1 || HOEFSPANKER_STARTUP != 13
 #error "kinds"
@@ -23,7 +32,10 @@ static_assert(HOEFSPANKER_MOST_OUT_BYTES
                   == HOEFSPANKER_MOST_RECORDS + HOEFSPANKER_HISTORY_BYTES,
               "the longest output is that of the longest list");
 
-int main()
+static_assert(HOEFSPANKER_HAS_STATUS_AT + 2 == HOEFSPANKER_FIELD_BYTES,
+              "one byte is left behind the fields of a message");
+
+static bool runs()
 {
     const uint8_t no_records[HOEFSPANKER_TRAILER_BYTES] =
         {0, 0, 0, 0, 0, 0, 0, 0, HOEFSPANKER_MOST_NODES, 0, 0x4D, 0x41};
@@ -31,5 +43,37 @@ int main()
     bool refused = hoefspanker_run(nullptr, 0, nullptr, 0) == HOEFSPANKER_BAD_LENGTH;
     bool ran = hoefspanker_run(no_records, sizeof no_records, out, sizeof out)
         == HOEFSPANKER_RAN;
-    return refused && ran ? 0 : 1;
+    return refused && ran;
+}
+
+static bool judges()
+{
+    const uint8_t no_records[HOEFSPANKER_TRAILER_BYTES] =
+        {0, 0, 0, 0, 0, 0, 0, 0, 1, 0, 0x4D, 0x41};
+    uint8_t places[HOEFSPANKER_PLACES_BYTES];
+    bool refused = hoefspanker_same_merge(no_records, sizeof no_records, nullptr, 0,
+                                          places, sizeof places)
+        == HOEFSPANKER_OF_SECOND + HOEFSPANKER_BAD_LENGTH;
+    bool judged = hoefspanker_same_merge(no_records, sizeof no_records,
+                                         no_records, sizeof no_records,
+                                         places, sizeof places)
+        == HOEFSPANKER_SAME;
+    return refused && judged && places[0] == 0;
+}
+
+static bool reads()
+{
+    const uint8_t message[] = {0x08, 7, 0x12, 0};
+    uint8_t fields[HOEFSPANKER_FIELD_BYTES];
+    bool refused = hoefspanker_read_arbitration(message, 1, nullptr, 0)
+        == HOEFSPANKER_CUT_SHORT;
+    bool read = hoefspanker_read_arbitration(message, sizeof message, fields, sizeof fields)
+        == HOEFSPANKER_READ;
+    return refused && read && fields[HOEFSPANKER_DEVICE_ID_AT] == 7
+        && fields[HOEFSPANKER_HAS_ROLE_AT] == 1 && fields[HOEFSPANKER_HAS_STATUS_AT] == 0;
+}
+
+int main()
+{
+    return runs() && reads() && judges() ? 0 : 1;
 }

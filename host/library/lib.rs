@@ -1,9 +1,26 @@
-//! The C call, as a Rust host makes it.
+//! The C calls, as a Rust host makes them.
 
 #[link(name = "hoefspanker", kind = "static")]
 extern "C" {
     fn hoefspanker_run(list: *const u8, list_len: usize, out: *mut u8, out_len: usize) -> u32;
+    fn hoefspanker_read_arbitration(
+        message: *const u8,
+        message_len: usize,
+        fields: *mut u8,
+        fields_len: usize,
+    ) -> u32;
+    fn hoefspanker_same_merge(
+        first: *const u8,
+        first_len: usize,
+        second: *const u8,
+        second_len: usize,
+        places: *mut u8,
+        places_len: usize,
+    ) -> u32;
 }
+
+/// A call that reads one slice and writes another.
+pub type Call = fn(&[u8], &mut [u8]) -> u32;
 
 /// Runs a list by the library.
 pub fn run(list: &[u8], out: &mut [u8]) -> u32 {
@@ -13,7 +30,50 @@ pub fn run(list: &[u8], out: &mut [u8]) -> u32 {
 
 /// As `run`, but an empty slice is lent as NULL.
 pub fn run_with_nulls(list: &[u8], out: &mut [u8]) -> u32 {
-    let list_start = if list.is_empty() { std::ptr::null() } else { list.as_ptr() };
-    let out_start = if out.is_empty() { std::ptr::null_mut() } else { out.as_mut_ptr() };
-    unsafe { hoefspanker_run(list_start, list.len(), out_start, out.len()) }
+    unsafe { hoefspanker_run(start(list), list.len(), start_mut(out), out.len()) }
+}
+
+/// Reads an arbitration message by the library.
+pub fn read_arbitration(message: &[u8], fields: &mut [u8]) -> u32 {
+    let (message_len, fields_len) = (message.len(), fields.len());
+    let (message, fields) = (message.as_ptr(), fields.as_mut_ptr());
+    unsafe { hoefspanker_read_arbitration(message, message_len, fields, fields_len) }
+}
+
+/// As `read_arbitration`, but an empty slice is lent as NULL.
+pub fn read_arbitration_with_nulls(message: &[u8], fields: &mut [u8]) -> u32 {
+    let (message_len, fields_len) = (message.len(), fields.len());
+    let (message, fields) = (start(message), start_mut(fields));
+    unsafe { hoefspanker_read_arbitration(message, message_len, fields, fields_len) }
+}
+
+/// Judges two lists by the library.
+pub fn same_merge(first: &[u8], second: &[u8], places: &mut [u8]) -> u32 {
+    let (first_len, second_len, places_len) = (first.len(), second.len(), places.len());
+    let (first, second, places) = (first.as_ptr(), second.as_ptr(), places.as_mut_ptr());
+    unsafe { hoefspanker_same_merge(first, first_len, second, second_len, places, places_len) }
+}
+
+/// As `same_merge`, but an empty slice is lent as NULL.
+pub fn same_merge_with_nulls(first: &[u8], second: &[u8], places: &mut [u8]) -> u32 {
+    let (first_len, second_len, places_len) = (first.len(), second.len(), places.len());
+    let (first, second, places) = (start(first), start(second), start_mut(places));
+    unsafe { hoefspanker_same_merge(first, first_len, second, second_len, places, places_len) }
+}
+
+/// NULL for an empty slice.
+fn start(bytes: &[u8]) -> *const u8 {
+    if bytes.is_empty() {
+        std::ptr::null()
+    } else {
+        bytes.as_ptr()
+    }
+}
+
+fn start_mut(bytes: &mut [u8]) -> *mut u8 {
+    if bytes.is_empty() {
+        std::ptr::null_mut()
+    } else {
+        bytes.as_mut_ptr()
+    }
 }

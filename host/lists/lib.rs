@@ -8,9 +8,7 @@ pub use walk::{Habits, Walk};
 
 use random::Random;
 use reference::limits::{MARK, RECORD_BYTES};
-
-/// Kind and node.
-pub type Step = (u8, u8);
+pub use reference::Step;
 
 /// A list with a good trailer.
 pub fn with_trailer(notes: &[u8], steps: &[Step], nodes: u8) -> Vec<u8> {

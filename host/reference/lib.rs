@@ -5,6 +5,7 @@
 pub mod codes;
 mod controller;
 pub mod history;
+mod independent;
 pub mod kinds;
 pub mod limits;
 mod list;
@@ -17,9 +18,13 @@ pub mod switch;
 mod tests;
 
 use codes::{answer_byte, Refusal};
+pub use independent::independent;
 use limits::{HISTORY_BYTES, RAN, RECORD_BYTES};
 pub use list::EventList;
 pub use state::State;
+
+/// Kind and node.
+pub type Step = (u8, u8);
 
 /// Runs a list from a fresh state: 256 plus the number of accepted writes, or
 /// the number of the refusal, which leaves `out` untouched.

@@ -2,9 +2,9 @@
 use mathlib.Core.Path.{_≡_, refl, sym, ap, ap₂, subst, _∙_}
 use mathlib.Core.Logic.{_≢_}
 use mathlib.Core.Bool.{Bool, true, false, not, _&&_, and-true, and-false, true≢false}
-use mathlib.Core.Option.{Option, none, some}
+use mathlib.Core.Option.{none, some}
 use mathlib.Core.List.{List, [], _∷_}
-use Prim.Native.Nat.{ℕ, zero, suc, _+_, _-_, _≤_, _<_}
+use Prim.Native.Nat.{ℕ, suc, _+_, _-_, _≤_, _<_}
 use native.Mathlib.Numerals.{add-one}
 use native.Mathlib.Omega.{arith}
 use native.Mathlib.Decide.{decLt, ℕ-discrete}
@@ -13,9 +13,7 @@ use lib.ListN.{length, getD, set, length-set}
 use lib.Seq.{getD-set-same, getD-set-other}
 use borrow.Author.Tests.{eq-eqb, ne-eqb, eqb-true, not-false}
 use Rattle.rules.specs.Step.{Event}
-use Rattle.laws.specs.InRange.{All}
-use Rattle.merges.specs.Independent.{independent}
-use Rattle.verdict.specs.Verdict.{Pulled, taken, blocked, missing, pull}
+use Rattle.verdict.specs.Verdict.{Pulled, taken, pull}
 use Rattle.verdict.specs.Pairs.{only}
 use Rattle.letters.specs.Letters.{letterOf, gone, TableFor, passes}
 use Rattle.letters.specs.Known.{letter-small}

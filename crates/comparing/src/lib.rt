@@ -1,14 +1,13 @@
 // Comparing two merges of the same logs: the records of the first list are taken, in turn, out of the second, each past those that are independent of it. A
 // record that is taken has its letter marked as out of the way, so nothing moves.
 ghost use mathlib.Core.Path.{_≡_};
-ghost use mathlib.Core.Bool.{_&&_};
 ghost use Prim.Native.Nat.{_+_, _≤_, _<_};
-ghost use lib.ListN.{length, getD};
-ghost use Rattle.lists.specs.EventList.{recordAt, recordCount, nodeCount};
+ghost use lib.ListN.{length};
+ghost use Rattle.lists.specs.EventList.{recordAt, recordCount};
 ghost use Rattle.lists.specs.Reads.{eventOf};
 ghost use Rattle.runner.specs.Running.{Trails};
 ghost use Rattle.verdict.specs.Verdict.{sameEvent};
-ghost use Rattle.letters.specs.Letters.{letterOf, tableSize, TableFor};
+ghost use Rattle.letters.specs.Letters.{tableSize, TableFor};
 ghost use Rattle.comparing.specs.Marks.{isLeft, isStop, isThere};
 ghost use Rattle.comparing.specs.Seek.{Sought};
 ghost use Rattle.comparing.specs.Compare.{onlyFirst, onlySecond};

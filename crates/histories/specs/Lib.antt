@@ -1,3 +1,3 @@
-pub mod Difference
-pub mod Reads
-pub mod Entries
+pub mod Held
+pub mod Numbers
+pub mod Read

@@ -1,6 +1,8 @@
-// The call for a C host: see include/hoefspanker.h.
+// The calls for a C host: see include/hoefspanker.h.
 ghost use mathlib.Core.Path.{_≡_};
+ghost use Rattle.packed.specs.Bytes.{reported};
 ghost use Rattle.runner.specs.Ran.{ran};
+ghost use Rattle.merging.specs.Told.{told};
 
 // Runs a list from a fresh state: an answer for each record, the history behind the answers, and the bytes after it stay.
 // Returns 256 plus the number of writes. A refused list returns why, and leaves every byte of the buffer.
@@ -10,4 +12,24 @@ pub extern "C" fn hoefspanker_run(list: &[u8], out: &mut [u8]) -> u32
         × (now (out .exit) ≡ ran (now (list .entry)) (now (out .entry)) .out) ⌝ }
 {
     runner::run(list, out)
+}
+
+// Compares two lists as merges of the same logs. Returns the verdict, with the places at the front of the buffer and the bytes after them as they were;
+// or the refusal, with every byte of the buffer as it was.
+#[no_mangle]
+pub extern "C" fn hoefspanker_same_merge(first: &[u8], second: &[u8], places: &mut [u8]) -> u32
+    ensures { λ r. ⌜ (r ≡ told (now (first .entry)) (now (second .entry)) (now (places .entry)) .returned)
+        × (now (places .exit) ≡ told (now (first .entry)) (now (second .entry)) (now (places .entry)) .places) ⌝ }
+{
+    merging::same_merge(first, second, places)
+}
+
+// Reads a captured arbitration message: its fields as 40 bytes at the front of the buffer, and the bytes after them stay. Returns 0, or why the message
+// or the buffer is refused, and then leaves every byte of the buffer.
+#[no_mangle]
+pub extern "C" fn hoefspanker_read_arbitration(message: &[u8], fields: &mut [u8]) -> u32
+    ensures { λ r. ⌜ (r ≡ reported (now (message .entry)) (now (fields .entry)) .returned)
+        × (now (fields .exit) ≡ reported (now (message .entry)) (now (fields .entry)) .fields) ⌝ }
+{
+    packed::read_into(message, fields)
 }

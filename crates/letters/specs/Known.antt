@@ -1,17 +1,17 @@
 -- Letters say all that independence asks of steps. Assumes nothing.
-use mathlib.Core.Path.{_≡_, refl, sym, ap, ap₂, _∙_}
-use mathlib.Core.Bool.{Bool, true, false, cond, _&&_, _||_, and-false}
+use mathlib.Core.Path.{_≡_, refl, sym, ap₂, _∙_}
+use mathlib.Core.Bool.{Bool, true, false, cond, _&&_, and-false}
 use Prim.Native.Nat.{ℕ, _+_, _*_, _/_, _%_, _≤_, _<_}
 use native.Mathlib.Omega.{arith}
 use native.Mathlib.Decide.{decLt}
 use lib.Dec.{leb, ltb}
-use borrow.Author.Tests.{ltb-true, ltb-false, le-ltb, lt-leb, ne-eqb}
+use borrow.Author.Tests.{ltb-true, ltb-false, lt-leb, ne-eqb}
 use Rattle.rules.specs.Range.{within}
 use Rattle.rules.specs.Step.{Event}
-use Rattle.merges.specs.Independent.{lines, listed, exists, independent}
+use Rattle.merges.specs.Independent.{exists, independent}
 use Rattle.independence.specs.Asks.{event}
 use Rattle.independence.specs.Kinds.{none-exists, at-node, at-none, past-all}
-use Rattle.letters.specs.Letters.{letterOf, stepFor, gone}
+use Rattle.letters.specs.Letters.{letterOf, stepFor}
 
 -- ---- how large a letter is
 

@@ -9,8 +9,8 @@ use Rattle.lists.specs.EventList.{nodeCount, refusal}
 use Rattle.runner.specs.Ran.{wholeRun}
 use Rattle.comparing.specs.declared.Finding.{Finding}
 use Rattle.comparing.specs.Compared.{comparison}
-use Rattle.histories.specs.declared.Parting.{Parting}
-use Rattle.histories.specs.Difference.{difference}
+use Rattle.partings.specs.declared.Parting.{Parting}
+use Rattle.partings.specs.Difference.{difference}
 use Rattle.report.specs.Line.{line}
 use Rattle.report.specs.Words as W
 

@@ -1,23 +1,22 @@
 -- What a run has left in its buffer says its history. Assumes nothing.
-use mathlib.Core.Path.{_≡_, sym, ap, ap₂, _∙_}
+use mathlib.Core.Path.{_≡_, ap, ap₂, _∙_}
 use mathlib.Core.List.{List, [], _∷_, _++_, append-assoc}
 use Prim.Native.Nat.{ℕ, _+_, _*_, _-_, _≤_}
 use native.Mathlib.Omega.{arith}
 use lib.ListN.{length, drop, length-append}
 use lib.Seq.{drop-at}
 use Rattle.rules.specs.Limits.{historyLength}
-use Rattle.rules.specs.State.{Write}
 use Rattle.lists.specs.EventList.{recordCount, refusal, historyBytes}
-use Rattle.lists.specs.Good.{Good, good}
+use Rattle.lists.specs.Good.{good}
 use Rattle.lists.specs.Written.{history-length}
 use Rattle.runner.specs.Ran.{noWrites, historyRoom, wholeRun, Ran, ran}
 use Rattle.runner.specs.Refusing.{ran-all}
 use Rattle.transcript.specs.Reading.{all-answered, few-writes}
 use Rattle.text.specs.Put.{Put}
 use Rattle.text.specs.Puts.{put-then}
-use Rattle.histories.specs.declared.Parting.{Parting}
-use Rattle.histories.specs.Difference.{difference, entries}
-use Rattle.histories.specs.Entries.{written}
+use Rattle.partings.specs.declared.Parting.{Parting}
+use Rattle.partings.specs.Difference.{difference, entries}
+use Rattle.partings.specs.Entries.{written}
 use Rattle.report.specs.Line.{line}
 use Rattle.report.specs.Words as W
 use Rattle.report.specs.Report.{partingLine, history, runsText}

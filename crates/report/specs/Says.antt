@@ -8,7 +8,7 @@ use Rattle.lists.specs.EventList.{nodeCount, refusal}
 use Rattle.text.specs.Put.{Put}
 use Rattle.comparing.specs.declared.Finding.{Finding}
 use Rattle.comparing.specs.Compared.{comparison}
-use Rattle.histories.specs.declared.Parting.{Parting}
+use Rattle.partings.specs.declared.Parting.{Parting}
 use Rattle.report.specs.Line.{line}
 use Rattle.report.specs.Words as W
 use Rattle.report.specs.Report.{verdictLine, partingLine, runsText, report}

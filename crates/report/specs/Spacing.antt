@@ -1,18 +1,16 @@
 -- Numbers put one after another, and how long a line is. Assumes nothing.
 use mathlib.Core.Path.{_≡_, refl, sym, ap, _∙_}
 use mathlib.Core.List.{List, [], _∷_, _++_, append-assoc, append-nil}
-use Prim.Native.Nat.{ℕ, zero, suc, _+_, _*_, _^_, _≤_, _<_}
+use Prim.Native.Nat.{ℕ, suc, _+_, _*_, _≤_, _<_}
 use native.Mathlib.Numerals.{add-one}
-use native.Mathlib.Nat.{le-of-suc-le-suc}
 use native.Mathlib.Omega.{arith}
 use lib.ListN.{length, getD, take, drop, length-append, take-append-drop}
-use lib.Seq.{take-suc, take-all, drop-cons}
-use Rattle.laws.specs.InRange.{All}
+use lib.Seq.{take-suc, take-all}
 use Rattle.text.specs.Decimal.{decimal}
 use Rattle.text.specs.Digits.{width}
-use Rattle.text.specs.Lines.{blank, newline}
+use Rattle.text.specs.Lines.{blank}
 use Rattle.text.specs.Put.{Room, Put}
-use Rattle.text.specs.Puts.{put-none, put-then, put-length, room-first, room-then}
+use Rattle.text.specs.Puts.{put-none, put-then, room-first, room-then}
 use Rattle.report.specs.Line.{spaced, line}
 
 spaced-append : (a b : List ℕ) → spaced (a ++ b) ≡ spaced a ++ spaced b

@@ -12,8 +12,8 @@ ghost use Rattle.report.specs.Line.{spaced, line};
 ghost use Rattle.report.specs.Report.{longest, verdictLine, partingLine, runsText, report};
 ghost use Rattle.report.specs.Runs.{Written};
 use comparing::Finding;
-use histories::Parting;
 use lists::Trailer;
+use partings::Parting;
 
 // Room for the longest text: a line of 64 bytes and two that have 128 together.
 pub const LONGEST_REPORT: usize = 192;
@@ -119,7 +119,7 @@ fn put_runs(
     let next = put_line(buf, at, b"writes", &numbers);
     let behind = one.count;
     let beyond = other.count;
-    let parting = histories::difference(
+    let parting = partings::difference(
         &mine[behind..],
         writes as usize,
         &theirs[beyond..],

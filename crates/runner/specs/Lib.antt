@@ -1,4 +1,6 @@
 pub mod Ran
 pub mod Refusing
+pub mod Tables
 pub mod Advances
 pub mod Running
+pub mod Turning

@@ -1,5 +1,5 @@
 -- What running a list gives: what is returned, and the whole output buffer. A refused list leaves the buffer as it was.
-use mathlib.Core.Bool.{Bool, cond}
+use mathlib.Core.Bool.{cond}
 use mathlib.Core.List.{List, _++_}
 use Prim.Native.Nat.{ℕ, _+_, _*_}
 use lib.ListN.{length}

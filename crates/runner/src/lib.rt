@@ -10,10 +10,12 @@ ghost use Rattle.rules.specs.Step.{fresh};
 ghost use Rattle.moves.specs.Bodies.{bodyOf};
 ghost use Rattle.lists.specs.EventList.{historyBytes, over};
 ghost use Rattle.runner.specs.Ran.{historyRoom, wholeRun, ran};
+ghost use Rattle.runner.specs.Tables.{bodyIn};
 ghost use Rattle.runner.specs.Running.{ifAccepted, Runs};
 use lists::Trailer;
-use parts::Term;
-use state::Body;
+use state::Table;
+use turns::Ask;
+use turns::Entry;
 
 // The bytes behind the answers: room for a full history.
 const HISTORY_ROOM: usize = 4096;
@@ -22,58 +24,124 @@ const HISTORY_ROOM: usize = 4096;
 const NO_WRITES: u32 = 256;
 
 // The fresh state, without its history.
-fn fresh_body(nodes: u8) -> Body
+fn fresh_table(nodes: u8) -> Table
     requires { ⌜ (1 ≤ nodes) × (nodes ≤ 8) ⌝ }
-    ensures { λ r. ⌜ r ≡ bodyOf (fresh nodes) ⌝ }
+    ensures { λ r. ⌜ bodyIn r ≡ bodyOf (fresh nodes) ⌝ }
 {
     let made = stepper::fresh(nodes);
     let state = made.state;
     let core = state.core;
-    Body {
+    let service = core.service;
+    let rows = core.nodes;
+    let streams = core.streams;
+    let claims = core.claims;
+    Table {
         count: state.count,
         running: state.running,
-        core: core,
+        service: service,
+        nodes: rows,
+        streams: streams,
+        claims: claims,
     }
 }
 
 // An accepted write joins the history. Gives the number of writes.
-fn keep(out: &mut [u8], count: usize, writes: u16, accepted: bool, node: u8, term: Term) -> u16
-    requires { ⌜ (count + historyRoom ≤ length (now out)) × (accepted ≡ true → writes < historyLength) ⌝ }
-    ensures { λ r. ⌜ (r ≡ writes + length (ifAccepted accepted (record { node = node; term = term .0 })))
-        × (now (out .exit) ≡ sets (now (out .entry)) (count + 4 * writes) (historyBytes (ifAccepted accepted (record { node = node; term = term .0 })))) ⌝ }
+fn keep(out: &mut [u8], count: usize, writes: u16, entry: Entry) -> u16
+    requires { ⌜ (count + historyRoom ≤ length (now out)) × (entry .accepted ≡ true → writes < historyLength) ⌝ }
+    ensures { λ r. ⌜ (r ≡ writes + length (ifAccepted (entry .accepted) (record { node = entry .node; term = entry .term .0 })))
+        × (now (out .exit) ≡ sets (now (out .entry)) (count + 4 * writes) (historyBytes (ifAccepted (entry .accepted) (record { node = entry .node; term = entry .term .0 })))) ⌝ }
 {
-    if accepted {
-        lists::write_entry(out, count, writes as usize, node, term);
+    if entry.accepted {
+        let term = entry.term;
+        lists::write_entry(out, count, writes as usize, entry.node, term);
         return writes + 1;
     }
     writes
 }
 
-// Runs all records. Gives the number of writes.
+// Runs all records. Gives the number of writes. The state stays in one local that every step stores into where it stands: a function that took the
+// state would copy it. So a post, too, is a turn of this loop for each node: `told` is how many have heard of the service's mastership.
 fn run_records(list: &[u8], trailer: Trailer, out: &mut [u8]) -> u16
     requires { ⌜ Runs (now list) trailer (length (now out)) ⌝ }
     ensures { λ r. ⌜ (r ≡ length (wholeRun (now (list .entry)) .state .history))
         × (now (out .exit) ≡ over (wholeRun (now (list .entry)) .answer ++ historyBytes (wholeRun (now (list .entry)) .state .history)) (now (out .entry))) ⌝ }
 {
-    let mut body = fresh_body(trailer.nodes);
+    let mut table = fresh_table(trailer.nodes);
+    let mut told = trailer.nodes;
     let mut writes: u16 = 0;
     let mut i: usize = 0;
     while i < trailer.count {
+        if told < table.count {
+            let at = told as usize;
+            let node = table.nodes[at];
+            let service = table.service;
+            table.nodes[at] = service::hear(node, service);
+            told += 1;
+            continue;
+        }
         let event = lists::read_record(list, trailer.first, i);
-        let moved = stepper::advance(body, writes, event.kind, event.node);
-        out[i] = moved.code;
-        let term = moved.term;
-        writes = keep(
-            &mut *out,
-            trailer.count,
-            writes,
-            moved.accepted,
-            event.node,
-            term,
-        );
-        let next = moved.body;
-        body = next;
+        let ask = Ask {
+            count: table.count,
+            running: table.running,
+            kind: event.kind,
+            number: event.node,
+        };
+        let code = if turns::at_row(ask) {
+            let at = (ask.number - 1) as usize;
+            let node = table.nodes[at];
+            let stream = table.streams[at];
+            let claims = table.claims;
+            turns::row_code(ask, writes, node, stream, claims)
+        } else if turns::at_desk(ask) {
+            let service = table.service;
+            let rows = table.nodes;
+            turns::desk_code(ask, service, rows)
+        } else {
+            let streams = table.streams;
+            let claims = table.claims;
+            turns::wire_code(ask, streams, claims)
+        };
+        out[i] = code;
         i += 1;
+        if code != parts::DONE {
+            continue;
+        }
+        if turns::at_row(ask) {
+            let at = (ask.number - 1) as usize;
+            let node = table.nodes[at];
+            if ask.kind == turns::LEARN {
+                table.nodes[at] = nodes::learn(node);
+                continue;
+            }
+            let stream = table.streams[at];
+            let claims = table.claims;
+            let row = turns::row_after(ask, node, stream, claims);
+            let next = row.stream;
+            let held = row.claims;
+            let entry = row.entry;
+            table.nodes[at].says = row.says;
+            table.streams[at] = next;
+            table.claims = held;
+            writes = keep(&mut *out, trailer.count, writes, entry);
+            continue;
+        }
+        if turns::at_desk(ask) {
+            let service = table.service;
+            let next = turns::service_after(ask, service);
+            table.service = next;
+            if turns::posts(ask, service) {
+                told = 0;
+            }
+            continue;
+        }
+        let streams = table.streams;
+        let claims = table.claims;
+        let wire = turns::wire_after(ask, streams, claims);
+        let next = wire.streams;
+        let held = wire.claims;
+        table.streams = next;
+        table.claims = held;
+        table.running = turns::runs_after(ask);
     }
     writes
 }

@@ -39,3 +39,26 @@ module _ {A : Type 0} (f : A → A) where
   -- a loop has done the first i rows, and stores f of the next one
   pub mapFirst-step : (i : ℕ) (l rows : List A) (d x : A) → rows ≡ mapFirst i l → x ≡ f (getD rows i d) → i < length l → set rows i x ≡ mapFirst (i + 1) l
   mapFirst-step i l rows d x e h lt = rw (h, e, mapFirst-out i i l d (omega arith), add-one i) (more i l d lt)
+
+  -- the rows from i on, among the first n
+  abbrev pub mapFrom : ℕ → ℕ → List A → List A
+  mapFrom zero n l = mapFirst n l
+  mapFrom (suc i) zero l = l
+  mapFrom (suc i) (suc n) [] = []
+  mapFrom (suc i) (suc n) (x ∷ l) = x ∷ mapFrom i n l
+
+  pub mapFrom-none : (n : ℕ) (l : List A) → mapFrom n n l ≡ l
+  mapFrom-none zero l = refl
+  mapFrom-none (suc n) [] = refl
+  mapFrom-none (suc n) (x ∷ l) = ap (λ (t : List A). x ∷ t) (mapFrom-none n l)
+
+  less : (i n : ℕ) (l : List A) (d : A) → i < n → mapFrom (suc i) n (set l i (f (getD l i d))) ≡ mapFrom i n l
+  less i zero l d h = absurd (omega arith)
+  less zero (suc n) [] d h = refl
+  less (suc i) (suc n) [] d h = refl
+  less zero (suc n) (x ∷ l) d h = refl
+  less (suc i) (suc n) (x ∷ l) d h = ap (λ (t : List A). x ∷ t) (less i n l d (le-of-suc-le-suc h))
+
+  -- a loop stores f of row i
+  pub mapFrom-step : (i n : ℕ) (l : List A) (d x : A) → x ≡ f (getD l i d) → i < n → mapFrom (i + 1) n (set l i x) ≡ mapFrom i n l
+  mapFrom-step i n l d x e h = rw (e, add-one i) (less i n l d h)

@@ -39,7 +39,8 @@ pub fn post_room(count: u8, nodes: [Node; 8]) -> bool
     true
 }
 
-fn hear(node: Node, m: Mastership) -> Node
+// The mastership goes last in the node's event queue.
+pub fn hear(node: Node, m: Mastership) -> Node
     ensures { λ r. ⌜ r ≡ hears m node ⌝ }
 {
     let events = node.events;

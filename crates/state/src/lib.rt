@@ -67,6 +67,16 @@ pub struct Body {
     pub core: Core,
 }
 
+// The same as one struct, as a run holds it: every step stores into it where it stands.
+pub struct Table {
+    pub count: u8,
+    pub running: bool,
+    pub service: Mastership,
+    pub nodes: [Node; 8],
+    pub streams: [Stream; 8],
+    pub claims: Claims,
+}
+
 // What a step leaves: its answer, the state, and the accepted write's term, where there is one.
 pub struct Moved {
     pub code: u8,

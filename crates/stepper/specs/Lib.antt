@@ -1,4 +1,3 @@
 pub mod Public
 pub mod Settling
-pub mod Kinds
 pub mod Stepping

@@ -1,5 +1,5 @@
 -- What the public functions give, by the step of the rules.
-use mathlib.Core.Bool.{Bool, false, cond}
+use mathlib.Core.Bool.{false, cond}
 use mathlib.Core.List.{[]}
 use Prim.Native.Nat.{ℕ}
 use Rattle.rules.specs.Codes.{stepDone, outOfRange, badNodeCount}

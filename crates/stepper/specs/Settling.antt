@@ -1,21 +1,19 @@
 -- A history with one write more, a step put together with its history, and blank states. Assumes nothing.
-use mathlib.Core.Path.{_≡_, refl, sym, ap, _∙_}
-use mathlib.Core.Bool.{Bool, true, false, cond}
+use mathlib.Core.Path.{_≡_, refl, sym}
+use mathlib.Core.Bool.{Bool, false, cond}
 use mathlib.Core.List.{List, [], _∷_, _++_}
 use Prim.Native.Nat.{ℕ, zero, suc, _+_, _<_}
-use native.Mathlib.Omega.{arith}
 use lib.ListN.{length, getD, set, replicate, length-append}
 use Rattle.rules.specs.Limits.{mostNodes, historyLength}
 use Rattle.rules.specs.State as S
 use Rattle.rules.specs.Queues.{push}
 use Rattle.rules.specs.Step.{fresh}
-use Rattle.seqs.specs.Tables.{table, table-ext}
+use Rattle.seqs.specs.Tables.{table-ext}
 use Rattle.seqs.specs.Padded.{padded-push, padded-none}
 use Rattle.parts.specs.Hold.{packMastership}
 use Rattle.state.specs.Hold.{packWrite, noWrite, packHistory, packNode, packStream, nodeRow, streamRow, idRow, termRow, packNodes, packStreams, packClaims, packCore, represent}
 use Rattle.state.specs.declared.Write.{Write}
 use Rattle.state.specs.declared.History.{History}
-use Rattle.state.specs.declared.Core.{Core}
 use Rattle.state.specs.declared.State.{State}
 use Rattle.state.specs.declared.Moved.{Moved}
 use Rattle.stepper.specs.declared.Stepped.{Stepped}

@@ -1,5 +1,5 @@
 -- A step of a state in range, from the step of its body and its history. Assumes nothing.
-use mathlib.Core.Path.{_≡_, refl, sym, ap, subst, _∙_}
+use mathlib.Core.Path.{_≡_, refl, sym, ap, _∙_}
 use mathlib.Core.Bool.{Bool, true, false, cond, _&&_}
 use mathlib.Core.List.{List, [], _∷_, _++_, append-nil}
 use Prim.Native.Nat.{ℕ, _≤_, _<_}
@@ -7,27 +7,23 @@ use native.Mathlib.Omega.{arith}
 use lib.Dec.{T}
 use lib.ListN.{length, length-append}
 use Rattle.rules.specs.Limits.{mostNodes, historyLength}
-use Rattle.rules.specs.Codes.{outOfRange}
 use Rattle.rules.specs.State as S
 use Rattle.rules.specs.Range.{inRange}
 use Rattle.rules.specs.Part.{Result}
 use Rattle.rules.specs.Step.{Event, kindOf, ofKind, ofState, step}
 use Rattle.rules.specs.Open.{openReport, wordOf, countOf}
-use Rattle.laws.specs.InRange.{InRange}
 use Rattle.laws.specs.RangeTest.{range-sound, range-complete}
 use Rattle.laws.specs.Steps.{step-keeps}
-use Rattle.laws.specs.Tests.{is-yes}
 use Rattle.seqs.specs.Columns.{column}
-use Rattle.state.specs.Hold.{openAt, packWrite, packHistory, packCore, holdHistory, holdCore, holdWire, hold, represent}
+use Rattle.state.specs.Hold.{openAt, packHistory, packCore, holdHistory, holdCore, holdWire, hold, represent}
 use Rattle.state.specs.Tidy.{tidyCore, tidyHistory, stateFits}
 use Rattle.state.specs.declared.State.{State}
 use Rattle.state.specs.declared.History.{History}
 use Rattle.state.specs.declared.Body.{Body}
 use Rattle.state.specs.declared.Moved.{Moved}
-use Rattle.moves.specs.Bodies.{stateOf, bodyOf, Ready, acceptedIn, Leaves}
-use Rattle.stepper.specs.Public.{stepped, reported, written}
+use Rattle.moves.specs.Bodies.{stateOf, Ready, acceptedIn, Leaves}
+use Rattle.stepper.specs.Public.{stepped, reported}
 use Rattle.stepper.specs.Settling.{appended, appended-held, settledAs}
-use Rattle.stepper.specs.declared.Stepped.{Stepped}
 use Rattle.stepper.specs.declared.Report.{Report}
 
 abbrev pub bodyIn : State → Body

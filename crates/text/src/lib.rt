@@ -15,15 +15,23 @@ fn put_byte(buf: &mut [u8], at: usize, byte: u8) -> usize
     at + 1
 }
 
-pub fn put_decimal(buf: &mut [u8], at: usize, n: u32) -> usize
+// A number of up to 64 bits: 20 digits.
+pub fn put_wide(buf: &mut [u8], at: usize, n: u64) -> usize
     requires { ⌜ Room (now buf) at (decimal n) ⌝ }
     ensures { λ r. ⌜ Put (now (buf .entry)) at (decimal n) (now (buf .exit)) r ⌝ }
 {
     if n < 10 {
         return put_byte(buf, at, ZERO + n as u8);
     }
-    let last = put_decimal(buf, at, n / 10);
+    let last = put_wide(buf, at, n / 10);
     put_byte(buf, last, ZERO + (n % 10) as u8)
+}
+
+pub fn put_decimal(buf: &mut [u8], at: usize, n: u32) -> usize
+    requires { ⌜ Room (now buf) at (decimal n) ⌝ }
+    ensures { λ r. ⌜ Put (now (buf .entry)) at (decimal n) (now (buf .exit)) r ⌝ }
+{
+    put_wide(buf, at, n as u64)
 }
 
 // A number with the byte that ends it.

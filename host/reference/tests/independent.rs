@@ -3,38 +3,7 @@
 use random::Random;
 
 use super::*;
-
-#[derive(Clone, Copy, PartialEq)]
-enum Class {
-    Service,
-    Learn,
-    Send,
-    Receive,
-    Switch,
-}
-
-fn class(kind: u8) -> Class {
-    match kind {
-        JOIN | LEAVE => Class::Service,
-        LEARN => Class::Learn,
-        SEND_UPDATE | SEND_WRITE => Class::Send,
-        RECEIVE_UPDATE | RECEIVE_WRITE => Class::Receive,
-        _ => Class::Switch,
-    }
-}
-
-/// The list (a) to (f), in one order.
-fn listed(one: Step, two: Step) -> bool {
-    use Class::*;
-    let apart = one.1 != two.1;
-    match (class(one.0), class(two.0)) {
-        (Learn | Send | Receive, Learn | Send | Receive) => apart,
-        (Service, Send | Receive | Switch) | (Learn, Switch) => true,
-        (Send, Switch) => apart && (CONNECT..=HANDLE_WRITE).contains(&two.0),
-        (Receive, Switch) => apart && (two.0 == CONNECT || two.0 == HANDLE_WRITE),
-        _ => false,
-    }
-}
+use crate::independent;
 
 fn random_step(random: &mut Random, nodes: u8) -> Step {
     let kind = random.between(1, 13) as u8;
@@ -69,7 +38,7 @@ fn listed_pairs_change_places() {
     while tried < 4_000 {
         let nodes = random.between(1, 4) as u8;
         let (one, two) = (random_step(&mut random, nodes), random_step(&mut random, nodes));
-        if !listed(one, two) && !listed(two, one) {
+        if !independent(nodes, one, two) {
             continue;
         }
         let steps = walk(&mut random, nodes);
@@ -79,5 +48,25 @@ fn listed_pairs_change_places() {
         assert_eq!([answers[0], answers[1]], [swapped[1], swapped[0]], "{one:?} {two:?}");
         assert_eq!(forward, backward, "{one:?} {two:?}");
         tried += 1;
+    }
+}
+
+#[test]
+fn strangers_are_independent_of_nothing() {
+    let known: Vec<Step> = (1..=11).map(|kind| (kind, 2)).chain([(12, 0), (13, 0)]).collect();
+    for stranger in [(0, 1), (14, 1), (255, 0), (3, 0), (3, 4), (12, 1), (13, 255)] {
+        for &step in known.iter().chain([&stranger]) {
+            assert!(!independent(3, stranger, step), "{stranger:?} {step:?}");
+            assert!(!independent(3, step, stranger), "{step:?} {stranger:?}");
+        }
+    }
+}
+
+#[test]
+fn no_step_is_independent_of_itself() {
+    for kind in 0..=255 {
+        for node in 0..=9 {
+            assert!(!independent(8, (kind, node), (kind, node)));
+        }
     }
 }

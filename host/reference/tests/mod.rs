@@ -10,8 +10,7 @@ use crate::codes::answer_byte;
 use crate::kinds::*;
 use crate::limits::{HISTORY_BYTES, QUEUE_CAPACITY};
 use crate::State;
-
-pub type Step = (u8, u8);
+use crate::Step;
 
 /// A node that has learned of its mastership becomes the switch's master and
 /// is told so.

@@ -1,6 +1,5 @@
 -- `entry` meets its contract. Assumes nothing.
-use mathlib.Core.Path.{_≡_, sym, ap, _∙_}
-use Rattle.letters.specs.Letters.{mayPass, bit}
+use Rattle.letters.specs.Letters.{mayPass}
 use borrow.Author.Needs.{needs}
 use Rattle.letters.proofs.entry.Statement.{statement}
 use Rattle.letters.proofs.entry.Tie as tie

@@ -6,7 +6,6 @@ use Rattle.text.specs.Puts.{put-length}
 use Rattle.report.specs.Line.{spaced}
 use Rattle.report.specs.Spacing.{spaced-none, spaced-more, room-blank, room-number, spaced-all}
 use borrow.Author.Needs.{needs}
-use native.Mathlib.Omega.{arith}
 use Rattle.report.proofs.put_numbers.Statement.{statement}
 use Rattle.report.proofs.put_numbers.Tie as tie
 

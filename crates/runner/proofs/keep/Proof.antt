@@ -1,27 +1,21 @@
 -- `keep` meets its contract. Assumes nothing.
-use mathlib.Core.Path.{_≡_, refl, sym, ap, _∙_}
-use mathlib.Core.Bool.{Bool}
-use mathlib.Core.List.{List}
-use Prim.Native.Nat.{ℕ, _+_, _*_}
+use mathlib.Core.Path.{refl}
 use native.Mathlib.Omega.{arith}
-use lib.ListN.{length}
-use lib.Seq.{sets}
 use Rattle.lists.specs.EventList.{historyBytes}
-use Rattle.runner.specs.Running.{ifAccepted}
 use borrow.Author.Needs.{needs}
 use Rattle.runner.proofs.keep.Statement.{statement}
 use Rattle.runner.proofs.keep.Tie as tie
 
 write-entry-requires : tie.Need-write-entry-requires
 write-entry-requires c κs =
-    let start = c .before .before .before in
-    let room = start .pre .1 (c .before .if1 .taken) in
+    let start = c .before .before .before .before in
+    let room = start .pre .1 (c .before .before .if1 .taken) in
     omega arith
 
 add-result : tie.Need-add-result
 add-result c =
-    let start = c .before .before .before .before .before .before in
-    let room = start .pre .1 (c .before .before .before .before .if1 .taken) in
+    let at-if1 = c .before .before .before .before .before in
+    let room = at-if1 .before .before .pre .1 (at-if1 .if1 .taken) in
     omega arith
 
 same-length : tie.Need-same-length
@@ -29,7 +23,7 @@ same-length c = search needs
 
 returns : tie.Need-returns
 unfolding historyBytes
-returns c = simp (c .before .before .before .before .if1 .taken) (refl, c .before .before .write-entry .ensures)
+returns c = simp (c .before .before .before .before .before .if1 .taken) (refl, c .before .before .write-entry .ensures)
 
 returns-2 : tie.Need-returns-2
 unfolding historyBytes

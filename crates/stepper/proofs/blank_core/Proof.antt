@@ -1,5 +1,4 @@
 -- `blank_core` meets its contract. Assumes nothing.
-use mathlib.Core.Path.{_≡_, refl, sym, ap, _∙_}
 use Rattle.rules.specs.Step.{fresh}
 use Rattle.state.specs.Hold.{packCore, packNodes, packStreams, packClaims}
 use Rattle.stepper.specs.Settling.{blank-core}

@@ -1,5 +1,4 @@
 -- `blank_state` meets its contract. Assumes nothing.
-use mathlib.Core.Path.{_≡_, refl, sym, ap, _∙_}
 use Rattle.state.specs.Hold.{packHistory, represent}
 use Rattle.stepper.specs.Settling.{blankState, no-history}
 use borrow.Author.Needs.{needs}

@@ -1,12 +1,9 @@
 -- `fresh` meets its contract. Assumes nothing.
-use mathlib.Core.Path.{_≡_, refl, sym, ap, _∙_}
 use native.Mathlib.Omega.{arith}
-use Rattle.rules.specs.Range.{within}
 use Rattle.rules.specs.Step.{fresh}
-use borrow.Author.Tests.{le-leb, lt-leb}
 use Rattle.stepper.specs.Public.{freshened}
 use Rattle.stepper.specs.Settling.{blankState}
-use Rattle.stepper.specs.Kinds.{a-node, no-node, past-nodes}
+use Rattle.turns.specs.Kinds.{inside, under, over}
 use borrow.Author.Needs.{needs}
 use Rattle.stepper.proofs.fresh.Statement.{statement}
 use Rattle.stepper.proofs.fresh.Tie as tie
@@ -16,21 +13,21 @@ blank-state-requires c κs = search needs
 
 returns : tie.Need-returns
 unfolding freshened blankState
-returns c = simp (no-node 8 (c .before .before .args .nodes) (c .before .if1 .taken), c .blank-state .ensures)
+returns c = simp (under 1 8 (c .before .before .args .nodes) (omega arith), c .blank-state .ensures)
 
 blank-state-requires-2 : tie.Need-blank-state-requires-2
 blank-state-requires-2 c κs = search needs
 
 returns-2 : tie.Need-returns-2
 unfolding freshened blankState
-returns-2 c = simp (past-nodes 8 (c .before .before .before .args .nodes) (omega arith) (c .before .if2 .taken), c .blank-state2 .ensures)
+returns-2 c = simp (over 1 8 (c .before .before .before .args .nodes) (omega arith) (c .before .if2 .taken), c .blank-state2 .ensures)
 
 blank-state-requires-3 : tie.Need-blank-state-requires-3
 blank-state-requires-3 c κs = search needs
 
 returns-3 : tie.Need-returns-3
 unfolding freshened blankState fresh
-returns-3 c = simp (a-node 8 (c .before .before .before .args .nodes) (omega arith) (c .before .if2 .left), c .blank-state3 .ensures)
+returns-3 c = simp (inside 1 8 (c .before .before .before .args .nodes) (omega arith) (c .before .if2 .left), c .blank-state3 .ensures)
 
 pub fresh-spec : {M : Type 1} → statement M
 fresh-spec =

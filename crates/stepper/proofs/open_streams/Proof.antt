@@ -1,8 +1,7 @@
 -- `open_streams` meets its contract. Assumes nothing.
-use mathlib.Core.Path.{_≡_, refl, sym, ap, _∙_}
+use mathlib.Core.Path.{_≡_, sym, _∙_}
 use mathlib.Core.Bool.{true}
 use Rattle.state.specs.Tidy.{stateFits}
-use Rattle.stepper.specs.declared.Report.{Report}
 use Rattle.stepper.specs.Public.{reported}
 use Rattle.stepper.specs.Stepping.{few-nodes, reports}
 use borrow.Author.Needs.{needs}

@@ -1,11 +1,10 @@
 -- `step` meets its contract. Assumes nothing.
-use mathlib.Core.Path.{_≡_, refl, sym, ap, _∙_}
+use mathlib.Core.Path.{_≡_, sym, _∙_}
 use mathlib.Core.Bool.{true}
 use Rattle.state.specs.Hold.{hold, represent, holdHistory}
 use Rattle.state.specs.Tidy.{stateFits}
 use Rattle.bridge.specs.Same.{tidy-same}
 use Rattle.bridge.proofs.Sizes.{sized}
-use Rattle.moves.specs.Bodies.{Leaves}
 use Rattle.stepper.specs.Public.{stepped}
 use Rattle.stepper.specs.Stepping.{ready, long, room-left, settles}
 use borrow.Author.Needs.{needs}

@@ -1,0 +1,5 @@
+pub mod Assured
+pub mod Meaning
+pub mod Names
+pub mod Lacks
+pub mod Sample

@@ -1,0 +1,1 @@
+// Why an old master can't get in. Read specs/, KeptOut first.

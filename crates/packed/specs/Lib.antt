@@ -1,0 +1,3 @@
+pub mod Bytes
+pub mod Little
+pub mod Reporting

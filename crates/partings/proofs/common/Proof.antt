@@ -1,0 +1,71 @@
+-- `common` meets its contract. Assumes nothing.
+use mathlib.Core.Path.{_≡_, ap₂, sym, _∙_}
+use Prim.Native.Nat.{_-_}
+use borrow.Author.Tests.{not-true, not-false}
+use Rattle.partings.specs.Difference.{sameWrite, entryAt}
+use Rattle.partings.specs.Entries.{Shared, shared-none, shared-more, shared-all}
+use borrow.Author.Needs.{needs}
+use native.Mathlib.Omega.{arith}
+use Rattle.partings.proofs.common.Statement.{statement}
+use Rattle.partings.proofs.common.Tie as tie
+
+abbrev Inv-loop : tie.InvT-loop
+Inv-loop one n other m i₀ i = Shared (entryAt one) (entryAt other) n m i
+
+abbrev μ-loop : tie.MeasureT-loop
+μ-loop one n other m i₀ i = n - i
+
+loop-holds : tie.Need-loop-holds Inv-loop μ-loop
+loop-holds c = shared-none _ _ _ _
+
+-- whether the two entries at the loop's place are the same
+alike : (c : tie.After-same Inv-loop μ-loop) → let x = c .before .before .before .before .before .before .before .before .args in
+    sameWrite (entryAt (x .one .now) (c .before .before .before .before .before .loop .i)) (entryAt (x .other .now) (c .before .before .before .before .before .loop .i)) ≡ c .same .result
+alike c = ap₂ sameWrite (sym (c .before .before .entry-at .ensures)) (sym (c .before .entry-at2 .ensures)) ∙ sym (c .same .ensures)
+
+returns : tie.Need-returns Inv-loop μ-loop
+returns c = let x = c .before .before .before .before .before .args in
+    shared-all (x .n) (x .m) _ (entryAt (x .one .now)) (entryAt (x .other .now)) (c .before .before .loop .inv) (λ h k. absurd (let z = c .if1 .taken in omega arith))
+
+entry-at-requires : tie.Need-entry-at-requires Inv-loop μ-loop
+entry-at-requires c κs = search needs
+
+entry-at-requires-2 : tie.Need-entry-at-requires-2 Inv-loop μ-loop
+entry-at-requires-2 c κs = search needs
+
+same-requires : tie.Need-same-requires Inv-loop μ-loop
+same-requires c κs = search needs
+
+returns-2 : tie.Need-returns-2 Inv-loop μ-loop
+returns-2 c = let x = c .before .before .before .before .before .before .before .before .before .args in
+    shared-all (x .n) (x .m) _ (entryAt (x .one .now)) (entryAt (x .other .now)) (c .before .before .before .before .before .before .loop .inv) (λ h k. alike (c .before) ∙ not-true _ (c .if2 .taken))
+
+add-i : tie.Need-add-i Inv-loop μ-loop
+add-i c = search needs
+
+loop-less : tie.Need-loop-less Inv-loop μ-loop
+loop-less c = search needs
+
+loop-again : tie.Need-loop-again Inv-loop μ-loop
+loop-again c = shared-more (c .before .before .before .before .before .before .loop .inv) (c .before .before .before .before .before .loop-test .taken) (c .before .before .before .before .if1 .left) (alike (c .before) ∙ not-false _ (c .if2 .left))
+
+returns-3 : tie.Need-returns-3 Inv-loop μ-loop
+returns-3 c = let x = c .before .before .before .before .args in
+    shared-all (x .n) (x .m) _ (entryAt (x .one .now)) (entryAt (x .other .now)) (c .before .loop .inv) (λ h k. absurd (let z = c .loop-test .left in omega arith))
+
+pub common-spec : {M : Type 1} → statement M
+common-spec =
+    tie.close
+    (tie.spec
+    Inv-loop
+    μ-loop
+    loop-holds
+    returns
+    entry-at-requires
+    entry-at-requires-2
+    same-requires
+    returns-2
+    add-i
+    loop-less
+    loop-again
+    returns-3)

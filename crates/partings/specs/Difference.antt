@@ -1,0 +1,55 @@
+-- The first entry in which two histories differ.
+use mathlib.Core.Bool.{Bool, true, false, cond, _&&_}
+use mathlib.Core.List.{List, [], _∷_}
+use Prim.Native.Nat.{ℕ, suc, _+_, _*_}
+use lib.Dec.{eqb}
+use lib.ListN.{length, getD}
+use Rattle.rules.specs.State.{Write}
+use Rattle.seqs.specs.Tables.{table}
+use Rattle.lists.specs.EventList.{byteAt}
+use Rattle.partings.specs.declared.Entry.{Entry}
+use Rattle.partings.specs.declared.Parting.{Parting}
+
+-- ---- histories
+
+abbrev pub sameWrite : Write → Write → Bool
+sameWrite w v = eqb (w .node) (v .node) && eqb (w .term) (v .term)
+
+abbrev pub oneMore : Bool → ℕ → ℕ
+oneMore true n = suc n
+oneMore false n = 0
+
+-- How many entries two histories have in common at their front.
+unfoldable pub common : List Write → List Write → ℕ
+common [] vs = 0
+common (w ∷ ws) [] = 0
+common (w ∷ ws) (v ∷ vs) = oneMore (sameWrite w v) (common ws vs)
+
+-- Where there is no entry.
+abbrev pub noWrite : Write
+noWrite = record { node = 0; term = 0 }
+
+abbrev pub entryOf : Write → Entry
+entryOf w = record { node = w .node; term = w .term }
+
+abbrev pub agrees : Parting
+agrees = record { at = 0; one = entryOf noWrite; other = entryOf noWrite }
+
+-- The entry that i others stand before.
+abbrev pub differsAt : ℕ → List Write → List Write → Parting
+differsAt i ws vs = record { at = i + 1; one = entryOf (getD ws i noWrite); other = entryOf (getD vs i noWrite) }
+
+unfoldable pub difference : List Write → List Write → Parting
+difference ws vs =
+    cond (eqb (common ws vs) (length ws) && eqb (common ws vs) (length vs))
+    agrees
+    (differsAt (common ws vs) ws vs)
+
+-- ---- histories as bytes
+
+abbrev pub entryAt : List ℕ → ℕ → Write
+entryAt part i = record { node = byteAt part (4 * i); term = byteAt part (4 * i + 2) + 256 * byteAt part (4 * i + 3) }
+
+-- The first n entries.
+abbrev pub entries : List ℕ → ℕ → List Write
+entries part n = table n (entryAt part)

@@ -1,0 +1,39 @@
+-- `put_status` meets its contract. Assumes nothing.
+use borrow.Author.Needs.{needs}
+use Rattle.text.specs.Puts.{put-then, room-first, room-then}
+use Rattle.update.specs.Arbitration.{low32}
+use Rattle.printout.specs.Printout.{codeWord, integerLine, statusLines}
+use Rattle.printout.proofs.put_status.Statement.{statement}
+use Rattle.printout.proofs.put_status.Tie as tie
+
+slice-aggregate-put-flag-line : tie.Need-slice-aggregate-put-flag-line
+slice-aggregate-put-flag-line c = search needs
+
+put-flag-line-requires : tie.Need-put-flag-line-requires
+unfolding statusLines
+put-flag-line-requires c κs = let start = c .before .before .before in room-first (integerLine codeWord (low32 (start .args .read .error))) (start .pre)
+
+slice-aggregate-put-integer-line : tie.Need-slice-aggregate-put-integer-line
+slice-aggregate-put-integer-line c = search needs
+
+put-integer-line-requires : tie.Need-put-integer-line-requires
+unfolding statusLines
+put-integer-line-requires c κs = room-then (c .before .before .before .before .put-flag-line .ensures) (c .before .before .before .before .before .before .before .before .pre)
+
+same-length : tie.Need-same-length
+same-length c = search needs
+
+returns : tie.Need-returns
+unfolding statusLines
+returns c = put-then (c .before .before .before .before .before .before .before .put-flag-line .ensures) (c .before .before .put-integer-line .ensures)
+
+pub put-status-spec : {M : Type 1} → statement M
+put-status-spec =
+    tie.close
+    (tie.spec
+    slice-aggregate-put-flag-line
+    put-flag-line-requires
+    slice-aggregate-put-integer-line
+    put-integer-line-requires
+    same-length
+    returns)

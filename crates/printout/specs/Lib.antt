@@ -1,0 +1,3 @@
+pub mod Printout
+pub mod Integers
+pub mod Widths

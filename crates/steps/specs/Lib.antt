@@ -1,4 +1,0 @@
-pub mod Asks
-pub mod Nodes
-pub mod Service
-pub mod Switch

@@ -1,0 +1,72 @@
+-- Which kinds each class has, and what the functions of this crate ask of their callers.
+use mathlib.Core.Path.{_≡_}
+use mathlib.Core.Logic.{_⊎_}
+use mathlib.Core.Bool.{false}
+use mathlib.Core.List.{List}
+use Prim.Native.Nat.{ℕ}
+use lib.Dec.{leb}
+use Rattle.rules.specs.Codes.{stepDone}
+use Rattle.rules.specs.Limits.{queueLength}
+use Rattle.rules.specs.Rules.{closeRule, handleUpdateRule}
+use Rattle.parts.specs.declared.Mastership.{Mastership}
+use Rattle.state.specs.Order.{OrderedNode, OrderedStream, OrderedWire}
+use Rattle.state.specs.declared.Node.{Node}
+use Rattle.state.specs.declared.Stream.{Stream}
+use Rattle.state.specs.declared.Claims.{Claims}
+use Rattle.service.specs.Asks.{Joins, Leaving}
+use Rattle.nodes.specs.Waiting.{Waits}
+use Rattle.switch.specs.Asks.{IsNode, AtWire, Tells, CanWrite}
+use Rattle.turns.specs.Turns.{barrier}
+use Rattle.turns.specs.declared.Ask.{Ask}
+
+pub data RowKind : ℕ → Type 0 where
+  learns : RowKind 3
+  sendUpdate : RowKind 4
+  receiveUpdate : RowKind 5
+  sendWrite : RowKind 6
+  receiveWrite : RowKind 7
+  connect : RowKind 8
+  handleWrite : RowKind 11
+
+pub data DeskKind : ℕ → Type 0 where
+  join : DeskKind 1
+  leave : DeskKind 2
+
+pub data WireKind : ℕ → Type 0 where
+  close : WireKind 9
+  handleUpdate : WireKind 10
+  shutdown : WireKind 12
+  startup : WireKind 13
+
+-- A node and its stream, both in order.
+pub record RowAsks (a : Ask) (node : Node) (stream : Stream) : Type 0 where
+  pub kind : RowKind (a .kind)
+  pub within : IsNode (a .count) (a .number)
+  pub ordered-node : OrderedNode node
+  pub ordered-stream : OrderedStream stream
+
+-- The same, where the answer is 0, with what the answer shows.
+pub record RowGoes (a : Ask) (node : Node) (stream : Stream) (claims : Claims) : Type 0 where
+  pub asks : RowAsks a node stream
+  pub roomy : (a .kind ≡ 4) ⊎ (a .kind ≡ 6) → leb queueLength (stream .requests .len) ≡ false
+  pub waits : a .kind ≡ 5 → Waits stream
+  pub can-write : a .kind ≡ 11 → CanWrite (a .count) (a .number) stream claims
+
+-- A service that a node joins or leaves, where the answer is 0.
+pub record DeskGoes (a : Ask) (service : Mastership) : Type 0 where
+  pub kind : DeskKind (a .kind)
+  pub joins : a .kind ≡ 1 → Joins service
+  pub leaving : a .kind ≡ 2 → Leaving service (a .number)
+
+-- The streams and what the switch holds, in order; one of the nodes where the kind calls for one.
+pub record WireAsks (a : Ask) (streams : List Stream) (claims : Claims) : Type 0 where
+  pub wire : OrderedWire (a .count) streams claims
+  pub kind : barrier a ≡ stepDone → WireKind (a .kind)
+  pub within : barrier a ≡ stepDone → (a .kind ≡ 9) ⊎ (a .kind ≡ 10) → AtWire (a .count) (a .number) streams claims
+
+-- The same, where the answer is 0.
+pub record WireGoes (a : Ask) (streams : List Stream) (claims : Claims) : Type 0 where
+  pub wire : OrderedWire (a .count) streams claims
+  pub kind : WireKind (a .kind)
+  pub closes : a .kind ≡ 9 → Tells closeRule (a .count) (a .number) streams claims
+  pub updates : a .kind ≡ 10 → Tells handleUpdateRule (a .count) (a .number) streams claims

@@ -1,0 +1,12 @@
+pub mod Turns
+pub mod Asks
+pub mod Kinds
+pub mod Answers
+pub mod At
+pub mod Nodes
+pub mod Service
+pub mod Switch
+pub mod Called
+pub mod RowTurns
+pub mod DeskTurns
+pub mod WireTurns

@@ -1,0 +1,133 @@
+-- Kinds 3 to 7 by the tests that the code makes. Assumes nothing.
+use mathlib.Core.Path.{_≡_, refl, sym, ap, ap₂, _∙_}
+use mathlib.Core.Bool.{Bool, true, false, not, _&&_}
+use mathlib.Core.List.{List, [], append-nil}
+use Prim.Native.Nat.{ℕ, _-_, _≤_}
+use native.Mathlib.Omega.{arith}
+use lib.ListN.{getD}
+use lib.Seq.{set-getD}
+use Rattle.rules.specs.Codes.{stepDone}
+use Rattle.rules.specs.Limits.{topId}
+use Rattle.rules.specs.State as S
+use Rattle.rules.specs.Queues.{first, empty}
+use Rattle.rules.specs.Part.{Rule, via, decide}
+use Rattle.rules.specs.Parts.{Sender, Sent, Receiver, Received, learnPart, sendPart, receivePart}
+use Rattle.rules.specs.Rules.{learns, receiveUpdate, receiveWrite, learnRule, receiveUpdateRule, receiveWriteRule, isUpdate}
+use Rattle.rules.specs.Rules as R
+use Rattle.rules.specs.Step.{act}
+use Rattle.laws.specs.InRange.{AnswerFits, ResponseFits}
+use Rattle.laws.specs.Lists.{queue-first}
+use Rattle.laws.specs.Decide.{Passes}
+use Rattle.seqs.specs.Columns.{column, column-at}
+use Rattle.parts.specs.Hold.{holdResponses}
+use Rattle.state.specs.Hold.{responsesAt, holdCore, holdWire}
+use Rattle.state.specs.Order.{OrderedNode, OrderedStream, pastNode, pastStream}
+use Rattle.state.specs.Reads.{answerOf, inboxOf, senderOf, receiverOf}
+use Rattle.state.specs.Stores.{storeInbox, storeSent, storeSays, storeReceived}
+use Rattle.state.specs.declared.Node.{Node}
+use Rattle.state.specs.declared.Stream.{Stream}
+use Rattle.state.specs.declared.Body.{Body}
+use Rattle.state.specs.declared.Moved.{Moved}
+use Rattle.nodes.specs.Waiting.{sendAnswer, updateWaits, writeWaits, Waits, received}
+use Rattle.moves.specs.Bodies.{stateOf, Leaves}
+use Rattle.moves.specs.Sets.{withDesk, withNode, withStream}
+use Rattle.moves.specs.Gets.{nodeOf, streamOf, inbox-read, sender-read, receiver-read}
+use Rattle.moves.specs.Stored.{fits-core, in-order-nodes, in-order-wire, inbox-stored-at, sent-stored-at, received-stored-at}
+use Rattle.moves.specs.Acts.{plain, done-at, passes}
+use Rattle.turns.specs.At.{At, row-in, leaves-as}
+
+module _ (b : Body) (n : ℕ) (a : At b n) where
+  pub node-ordered : OrderedNode (nodeOf b n)
+  node-ordered = in-order-nodes b (a .ready) .rows (n - 1) (row-in b n a)
+
+  pub stream-ordered : OrderedStream (streamOf b n)
+  stream-ordered = in-order-wire b (a .ready) .rows (n - 1) (row-in b n a)
+
+  module _ (history : List S.Write) where
+    -- ---- 3 Learn
+
+    pub learn-yes : learnRule .allowed (inboxOf (nodeOf b n)) ≡ true → (x : Node) → x ≡ storeInbox (learnRule .effect (inboxOf (nodeOf b n))) (nodeOf b n)
+        → (m : Moved) → m ≡ plain stepDone (withNode n x b) → Leaves n history (act learns n (stateOf b history)) m
+    unfolding learnRule
+    learn-yes h x f m e = let v = inboxOf (nodeOf b n) in
+        leaves-as n history _ (plain stepDone (withNode n x b)) m e
+        (done-at (learnPart n) learnRule n b (a .ready) history v (inbox-read b n (row-in b n a) history) (record { allowed = rw h tt; term = tt; history = tt; queues = tt })
+        (plain stepDone (withNode n x b)) refl
+        (ap (λ (y : Node). withNode n y b) f ∙ inbox-stored-at b (a .ready) history n (row-in b n a) (learnRule .effect v)) (sym (append-nil history)))
+
+    -- ---- 4, 6 Send: for either rule
+
+    module _ (r : Rule Sender Sent) where
+      abbrev v : Sender
+      v = senderOf (b .count) (nodeOf b n) (streamOf b n)
+
+      pub send-yes : answerOf (decide r (senderOf (b .count) (nodeOf b n) (streamOf b n))) ≡ stepDone
+          → (x : Stream) → x ≡ storeSent (r .effect (senderOf (b .count) (nodeOf b n) (streamOf b n))) (streamOf b n)
+          → (m : Moved) → m ≡ plain stepDone (withStream n x b) → Leaves n history (via (sendPart n) (decide r) (stateOf b history)) m
+      send-yes h x f m e =
+          leaves-as n history _ (plain stepDone (withStream n x b)) m e
+          (done-at (sendPart n) r n b (a .ready) history v (sender-read b n (row-in b n a) history) (passes r v h) (plain stepDone (withStream n x b)) refl
+          (ap (λ (y : Stream). withStream n y b) f ∙ sent-stored-at b (a .ready) history n (row-in b n a) (r .effect v)) (sym (append-nil history)))
+
+    -- ---- 5, 7 Receive: for either rule
+
+    module _ (r : Rule Receiver Received) where
+      abbrev u : Receiver
+      u = receiverOf (b .count) (nodeOf b n) (streamOf b n)
+
+      pub receive-yes : Passes r (receiverOf (b .count) (nodeOf b n) (streamOf b n)) → (x : Node) → x ≡ storeSays (r .effect (receiverOf (b .count) (nodeOf b n) (streamOf b n))) (nodeOf b n)
+          → (y : Stream) → y ≡ storeReceived (r .effect (receiverOf (b .count) (nodeOf b n) (streamOf b n))) (streamOf b n) → (m : Moved)
+          → m ≡ plain stepDone (withNode n x (withStream n y b)) → Leaves n history (via (receivePart n) (decide r) (stateOf b history)) m
+      receive-yes p x f y g m e =
+          leaves-as n history _ (plain stepDone (withNode n x (withStream n y b))) m e
+          (done-at (receivePart n) r n b (a .ready) history u (receiver-read b n (row-in b n a) history) p (plain stepDone (withNode n x (withStream n y b))) refl
+          (ap₂ (λ (q : Node) (t : Stream). withNode n q (withStream n t b)) f g ∙ received-stored-at b (a .ready) history n (row-in b n a) (r .effect u)) (sym (append-nil history)))
+
+    pub receive-update-yes : updateWaits (streamOf b n) ≡ true → (x : Node) → x ≡ storeSays (receiveUpdateRule n .effect (receiverOf (b .count) (nodeOf b n) (streamOf b n))) (nodeOf b n)
+        → (y : Stream) → y ≡ received (streamOf b n) → (m : Moved) → m ≡ plain stepDone (withNode n x (withStream n y b)) → Leaves n history (act receiveUpdate n (stateOf b history)) m
+    unfolding receiveUpdateRule
+    receive-update-yes h x f y g m e = receive-yes (receiveUpdateRule n) (record { allowed = rw h tt; term = tt; history = tt; queues = tt }) x f y g m e
+
+    pub receive-write-yes : writeWaits (streamOf b n) ≡ true → (y : Stream) → y ≡ received (streamOf b n) → (m : Moved) → m ≡ plain stepDone (withStream n y b)
+        → Leaves n history (act receiveWrite n (stateOf b history)) m
+    unfolding receiveWriteRule
+    receive-write-yes h y g m e =
+        let same : withStream n y b ≡ withNode n (nodeOf b n) (withStream n y b) =
+        ap (λ (l : List Node). withDesk (b .core .service) l (withStream n y b)) (sym (set-getD (b .core .nodes) (n - 1) pastNode)) in
+        receive-yes receiveWriteRule (record { allowed = rw h tt; term = tt; history = tt; queues = tt }) (nodeOf b n) refl y g m (e ∙ ap (plain stepDone) same)
+
+-- ---- the answer of a step that sends
+
+pub sends : (allowed full : Bool) → sendAnswer allowed full ≡ stepDone → full ≡ false
+sends true true e = absurd (omega arith)
+sends true false e = refl
+sends false full e = absurd (omega arith)
+
+module _ (b : Body) (n : ℕ) (a : At b n) where
+  -- ---- a response that waits has an id in range
+
+  small : (m : S.Message) (t : S.Status) (id : ℕ) → AnswerFits m t id → id ≤ topId
+  small S.update S.ok id h = h
+  small S.update S.alreadyExists id h = h
+  small S.update S.permissionDenied id h = absurd h
+  small S.write S.ok id h = omega arith
+  small S.write S.alreadyExists id h = absurd h
+  small S.write S.permissionDenied id h = omega arith
+
+  waits-not-empty : (o e u : Bool) → (o && not e && u) ≡ true → e ≡ false
+  waits-not-empty true true u h = sym h
+  waits-not-empty false true u h = sym h
+  waits-not-empty o false u h = refl
+
+  pub waits : updateWaits (streamOf b n) ≡ true → Waits (streamOf b n)
+  unfolding holdCore holdWire
+  waits h =
+      let q = holdResponses (streamOf b n .responses) in
+      let some = waits-not-empty (streamOf b n .opened) (empty q) (isUpdate (first R.noResponse q .message)) h in
+      let e : getD (column responsesAt (b .count) (b .core .streams)) (n - 1) [] ≡ q = column-at responsesAt (b .count) (n - 1) (b .core .streams) pastStream (row-in b n a) in
+      let r = first R.noResponse q in
+      record {
+        ordered = stream-ordered b n a;
+        some = some;
+        small = small (r .message) (r .status) (r .id) (queue-first ResponseFits R.noResponse q (rw some tt) (rw e at (fits-core b (a .ready) .wire .streams (n - 1) .responses-fit)));
+      }

@@ -1,0 +1,63 @@
+-- `embedded_field` meets its contract. Assumes nothing.
+use mathlib.Core.Path.{_∙_}
+use native.Mathlib.Omega.{arith}
+use borrow.Author.Needs.{needs}
+use Rattle.wire.specs.Fields.{asVarint}
+use Rattle.wire.specs.Found.{first-found, with-tag, number-1, number-2}
+use Rattle.update.proofs.embedded_field.Statement.{statement}
+use Rattle.update.proofs.embedded_field.Tie as tie
+
+first-byte-requires : tie.Need-first-byte-requires
+first-byte-requires c κs = search needs
+
+add-read-varint : tie.Need-add-read-varint
+add-read-varint c =
+    let a = c .before .before .before .args in
+    let tag = c .before .first-byte in
+    let found = first-found (a .part .now) (a .at) (tag .result) (tag .ensures) (omega arith) in
+    search needs
+
+read-varint-requires : tie.Need-read-varint-requires
+read-varint-requires c κs = search needs
+
+add-read-varint-2 : tie.Need-add-read-varint-2
+add-read-varint-2 c =
+    let a = c .before .before .before .args in
+    let tag = c .before .first-byte in
+    let found = first-found (a .part .now) (a .at) (tag .result) (tag .ensures) (omega arith) in
+    search needs
+
+read-varint-requires-2 : tie.Need-read-varint-requires-2
+read-varint-requires-2 c κs = search needs
+
+read-field-requires : tie.Need-read-field-requires
+read-field-requires c κs = search needs
+
+returns : tie.Need-returns
+returns c =
+    let a = c .before .before .before .before .args in
+    let tag = c .before .before .first-byte in
+    c .read-varint .ensures ∙ with-tag (a .part .now) (a .at) (tag .result) 8 (asVarint 1) (tag .ensures) (c .before .match .keys1) (omega arith) number-1
+
+returns-2 : tie.Need-returns-2
+returns-2 c =
+    let a = c .before .before .before .before .args in
+    let tag = c .before .before .first-byte in
+    c .read-varint2 .ensures ∙ with-tag (a .part .now) (a .at) (tag .result) 16 (asVarint 2) (tag .ensures) (c .before .match .keys2) (omega arith) number-2
+
+returns-3 : tie.Need-returns-3
+returns-3 c = search needs
+
+pub embedded-field-spec : {M : Type 1} → statement M
+embedded-field-spec =
+    tie.close
+    (tie.spec
+    first-byte-requires
+    add-read-varint
+    read-varint-requires
+    add-read-varint-2
+    read-varint-requires-2
+    read-field-requires
+    returns
+    returns-2
+    returns-3)

@@ -1,0 +1,52 @@
+-- `take` meets its contract. Assumes nothing.
+use mathlib.Core.Path.{ap, _∙_}
+use Prim.Native.Nat.{_-_}
+use borrow.Author.Needs.{needs}
+use Rattle.wire.specs.Messages.{message}
+use Rattle.update.specs.Raw.{withDevice}
+use Rattle.update.specs.Seeing.{sees-device, sees-fixed, sees-bytes}
+use Rattle.update.proofs.take.Statement.{statement}
+use Rattle.update.proofs.take.Tie as tie
+
+last-requires : tie.Need-last-requires
+last-requires c κs = search needs
+
+returns : tie.Need-returns
+returns c =
+    let a = c .before .before .before .before .args in
+    ap (withDevice (a .u)) (c .last .ensures) ∙ sees-device (a .message .now) (a .field) (a .u) (c .before .if1 .taken)
+
+returns-2 : tie.Need-returns-2
+returns-2 c =
+    let a = c .before .before .before .before .before .args in
+    sees-fixed (a .message .now) (a .field) (a .u) (c .before .before .if1 .left) (c .if2 .taken)
+
+sub-take-bytes : tie.Need-sub-take-bytes
+sub-take-bytes c = search needs
+
+part-take-bytes-start : tie.Need-part-take-bytes-start
+part-take-bytes-start c = search needs
+
+part-take-bytes-end : tie.Need-part-take-bytes-end
+part-take-bytes-end c = search needs
+
+take-bytes-requires : tie.Need-take-bytes-requires
+take-bytes-requires c κs = search needs
+
+returns-3 : tie.Need-returns-3
+returns-3 c =
+    let a = c .before .before .before .before .before .before .before .args in
+    c .take-bytes .ensures ∙ sees-bytes (a .message .now) (a .field) (a .u) (c .before .before .before .before .if1 .left) (c .before .before .if2 .left)
+
+pub take-spec : {M : Type 1} → statement M
+take-spec =
+    tie.close
+    (tie.spec
+    last-requires
+    returns
+    returns-2
+    sub-take-bytes
+    part-take-bytes-start
+    part-take-bytes-end
+    take-bytes-requires
+    returns-3)

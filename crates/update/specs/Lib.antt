@@ -1,0 +1,10 @@
+pub mod Update
+pub mod Seen
+pub mod Arbitration
+pub mod Merge
+pub mod Choices
+pub mod Merging
+pub mod Raw
+pub mod Seeing
+pub mod Signed
+pub mod Sample

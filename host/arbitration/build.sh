@@ -1,0 +1,17 @@
+# Functions that build what reads arbitration messages. Sourced by host/build.sh.
+
+build_reading() {
+    rust_library arbitration/reading && rust_library arbitration/messages &&
+        rust_linked --test --crate-name reading_test -o "$out/reading-test" \
+            host/arbitration/reading/lib.rs
+}
+
+build_compare_messages() {
+    rust_library library && rust_library arbitration/calls &&
+        rust_program arbitration/compare compare-messages
+}
+
+build_peer() {
+    rust_library library && rust_library arbitration/calls &&
+        rust_program arbitration/peer peer
+}

@@ -1,0 +1,41 @@
+//! What every comparison with the library needs: its arguments, buffers to
+//! lend, a count of what it reached, and its exit status.
+
+mod arguments;
+mod lent;
+mod reached;
+mod shrink;
+
+pub use arguments::{run_with_arguments, Arguments};
+pub use lent::Lent;
+pub use reached::Counts;
+pub use shrink::shrunk;
+
+use std::process::ExitCode;
+
+/// The exit status of a comparison: 1 for a difference, 2 if something was not
+/// reached that must be.
+pub fn status(differences: usize, missing: usize) -> ExitCode {
+    match (differences, missing) {
+        (0, 0) => ExitCode::SUCCESS,
+        (0, _) => ExitCode::from(2),
+        _ => ExitCode::from(1),
+    }
+}
+
+/// The exit status of a test that ends at the first difference, which is printed.
+pub fn ended(result: Result<(), String>) -> ExitCode {
+    match result {
+        Ok(()) => ExitCode::SUCCESS,
+        Err(difference) => {
+            println!("{}", difference.trim_end());
+            ExitCode::from(1)
+        }
+    }
+}
+
+/// Hex text, 32 bytes a line.
+pub fn hex(bytes: &[u8]) -> String {
+    let line = |line: &[u8]| line.iter().map(|byte| format!("{byte:02X}")).collect::<Vec<_>>();
+    bytes.chunks(32).map(|bytes| line(bytes).join(" ") + "\n").collect()
+}
