@@ -5,3 +5,4 @@ pub mod Words
 pub mod Answer
 pub mod Showing
 pub mod Rows
+pub mod Promise

@@ -78,3 +78,23 @@ few-nodes text = go (lines text)
     go : (ls : List (List ℕ)) → readLines ls .nodes ≤ 8
     go [] = omega arith
     go (l ∷ ls) = headed-nodes (headOn (lineOf l)) (part 0 2 ls) (head-nodes (lineOf l))
+
+-- A log that is not refused has a node.
+pub good-nodes : (text : List ℕ) → readText text .refused ≡ 0 → 1 ≤ readText text .nodes
+unfolding readText
+good-nodes text = go (lines text)
+  where
+    said : (l : Line) (p : Part) → headed (headOn l) p .refused ≡ 0 → 1 ≤ headed (headOn l) p .nodes
+    said Blank p e = absurd (omega arith)
+    said (Two n d) p e = pick (within 1 mostNodes n) refl e
+      where
+        pick : (b : Bool) → within 1 mostNodes n ≡ b → headed (cond b (record { good = true; nodes = n; bound = d }) noHead) p .refused ≡ 0
+            → 1 ≤ headed (cond b (record { good = true; nodes = n; bound = d }) noHead) p .nodes
+        pick true i u = is-within 1 mostNodes n .to (rw i tt) .lower
+        pick false i u = absurd (omega arith)
+    said (Four a b c d) p e = absurd (omega arith)
+    said Other p e = absurd (omega arith)
+
+    go : (ls : List (List ℕ)) → readLines ls .refused ≡ 0 → 1 ≤ readLines ls .nodes
+    go [] e = absurd (omega arith)
+    go (l ∷ ls) e = said (lineOf l) (part 0 2 ls) e
