@@ -1,0 +1,5 @@
+pub mod Rows
+pub mod Exchange
+pub mod Bytes
+pub mod Moves
+pub mod Filling
