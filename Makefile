@@ -1,5 +1,5 @@
 # make run [LIST=file]   prove and build the program, then run an event list (hex text or bytes)
-# make programs          prove and build all programs: target/bin/replay, compare, arbitration
+# make programs          prove and build all programs: target/bin/replay, compare, merge_log, arbitration
 # make test              the gate: every proof, every must-fail edit, every test
 # make lib               target/staticlib/libhoefspanker.a for a C host
 # make install PREFIX=   the library, its header, its pkg-config file and the programs
@@ -9,7 +9,7 @@ LIST ?= examples/sample.hex
 PREFIX ?= /usr/local
 DESTDIR ?=
 PROGRAM = target/bin/replay
-PROGRAMS = replay compare arbitration
+PROGRAMS = replay compare merge_log arbitration
 LIBRARY = target/staticlib/libhoefspanker.a
 VERSION = 1.0.0
 
@@ -38,6 +38,7 @@ bench: program lib
 install: programs lib
 	install -d "$(DESTDIR)$(PREFIX)/bin" "$(DESTDIR)$(PREFIX)/include" "$(DESTDIR)$(PREFIX)/lib/pkgconfig"
 	install -m 755 $(PROGRAMS:%=target/bin/%) "$(DESTDIR)$(PREFIX)/bin"
+	mv "$(DESTDIR)$(PREFIX)/bin/merge_log" "$(DESTDIR)$(PREFIX)/bin/merges"
 	install -m 644 include/hoefspanker.h "$(DESTDIR)$(PREFIX)/include"
 	install -m 644 $(LIBRARY) "$(DESTDIR)$(PREFIX)/lib"
 	sed -e 's|@PREFIX@|$(PREFIX)|' -e 's|@VERSION@|$(VERSION)|' include/hoefspanker.pc.in >"$(DESTDIR)$(PREFIX)/lib/pkgconfig/hoefspanker.pc"
