@@ -5,15 +5,15 @@ use mathlib.Core.List.{List, [], _∷_, _++_, append-nil}
 use Prim.Native.Nat.{ℕ, zero, suc, _+_, _*_, _%_, _≤_, _<_}
 use native.Mathlib.Numerals.{add-one}
 use native.Mathlib.Omega.{arith}
-use lib.ListN.{length, getD, take}
-use lib.Seq.{take-suc, take-all}
+use lib.ListN.{length, getD, take, drop}
+use lib.Seq.{take-suc, take-all, take-at, sets-eq}
 use Rattle.rules.specs.Step.{Event}
 use Rattle.seqs.specs.Tables.{table, table-get, table-length}
 use Rattle.text.specs.Put.{Room, Put}
 use Rattle.text.specs.Puts.{put-none, put-then, put-length}
 use Rattle.exchanges.specs.Rows.{rowIn}
 use Rattle.exchanges.specs.Exchange.{moved}
-use Rattle.exchanges.specs.Bytes.{flat, flat-length}
+use Rattle.exchanges.specs.Bytes.{flat, trailerOf, listOf}
 
 -- The step at place i of the exchanged merge.
 abbrev pub stepAt : List ℕ → Bool → ℕ → ℕ → ℕ → Event
@@ -54,3 +54,14 @@ module _ {f : ℕ → Event} {n : ℕ} {before after : List ℕ} {at i : ℕ} (s
       let y = s .place in
       let w = table-length n f in
       (rw (take-all i (table n f) (omega arith)) at (s .put), omega arith)
+
+-- The steps, and the trailer behind them.
+pub list-put : (count n : ℕ) (f : ℕ → Event) {l m k : List ℕ} {i j : ℕ} → Put l 0 (flat (table n f)) m i → Put m i (trailerOf n count) k j → Put l 0 (listOf count (table n f)) k j
+list-put count n f p q = put-then p (rw (table-length n f) q)
+
+-- ---- the list that was put down, as the run reads it
+
+pub list-read : {bytes before after : List ℕ} {n : ℕ} → Put before 0 bytes after n → length bytes ≤ length before → take n after ≡ bytes
+list-read {bytes} {before} {after} {n} p h =
+    let whole : n ≡ length bytes = (let z = p .place in omega arith) in
+    ap₂ take whole (p .content ∙ sets-eq bytes before 0 (omega arith)) ∙ take-at bytes (drop (0 + length bytes) before) (length bytes) refl

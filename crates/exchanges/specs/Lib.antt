@@ -3,3 +3,4 @@ pub mod Exchange
 pub mod Bytes
 pub mod Moves
 pub mod Filling
+pub mod Ran
