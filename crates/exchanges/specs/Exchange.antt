@@ -34,13 +34,14 @@ exchanged up x y rows = table (length rows) (λ i. getD rows (moved up x y i) no
 
 -- ---- whether the clocks allow it: every record that is passed is of another log, and its time allows the other order
 
-abbrev pub passes : ℕ → List Row → Bool → ℕ → ℕ → Bool
-passes bound rows true m z = not (eqb (getD rows z noRow .logged .log) (getD rows m noRow .logged .log)) && leb (getD rows m noRow .logged .time) (getD rows z noRow .logged .time + bound)
-passes bound rows false m z = not (eqb (getD rows z noRow .logged .log) (getD rows m noRow .logged .log)) && leb (getD rows z noRow .logged .time) (getD rows m noRow .logged .time + bound)
+-- Record m, which is moved, and record z, which it passes.
+abbrev pub mayPass : ℕ → Bool → Row → Row → Bool
+mayPass bound true m z = not (eqb (z .logged .log) (m .logged .log)) && leb (m .logged .time) (z .logged .time + bound)
+mayPass bound false m z = not (eqb (z .logged .log) (m .logged .log)) && leb (z .logged .time) (m .logged .time + bound)
 
 abbrev pub allowed : ℕ → List Row → Bool → ℕ → ℕ → Bool
-allowed bound rows true x y = all (passes bound rows true y) (from x (y - x))
-allowed bound rows false x y = all (passes bound rows false x) (from (suc x) (y - x))
+allowed bound rows true x y = all (λ z. mayPass bound true (getD rows y noRow) (getD rows z noRow)) (from x (y - x))
+allowed bound rows false x y = all (λ z. mayPass bound false (getD rows x noRow) (getD rows z noRow)) (from (suc x) (y - x))
 
 -- ---- what it does to the history
 

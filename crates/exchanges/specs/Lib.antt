@@ -4,3 +4,4 @@ pub mod Bytes
 pub mod Moves
 pub mod Filling
 pub mod Ran
+pub mod Passing

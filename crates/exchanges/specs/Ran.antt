@@ -55,3 +55,38 @@ module _ (l : List ℕ) (n : ℕ) where
       (λ i h. ap (λ (r : Row). r .logged .event) (sym (table-get n (rowIn l) (moved up x y i) noRow (moved-inside up x y i n a b h))))
       ∙ ap (λ (m : ℕ). table m (λ i. getD (rowsIn l n) (moved up x y i) noRow .logged .event)) (sym (table-length n (rowIn l)))
       ∙ sym (map-table (length (rowsIn l n)) (λ i. getD (rowsIn l n) (moved up x y i) noRow))
+
+-- ---- every step that is moved fits bytes
+
+small-at : (rows : List Row) → All Small (stepsOf rows) → (i : ℕ) → Small (getD rows i noRow .logged .event)
+small-at [] s i = (omega arith, omega arith)
+small-at (r ∷ rows) s zero = s .0
+small-at (r ∷ rows) s (suc i) = small-at rows (s .1) i
+
+small-table : (n : ℕ) (f : ℕ → Row) → ((i : ℕ) → Small (f i .logged .event)) → All Small (stepsOf (table n f))
+small-table zero f h = tt
+small-table (suc n) f h = (h 0, small-table n (λ i. f (suc i)) (λ i. h (suc i)))
+
+-- ---- where the histories part
+
+module _ (count : ℕ) (l : List ℕ) (n : ℕ) (low : 1 ≤ count) (high : count ≤ 8) (few : n ≤ 32762) (small : All Small (stepsOf (rowsIn l n))) where
+  size : (f : ℕ → Event) → length (table n f) ≤ 32762
+  size f = let z = table-length n f in omega arith
+
+  history-here : history (listOf count (table n (stepAt l true n n))) ≡ historyOf count (rowsIn l n)
+  history-here =
+      ap (λ (es : List Event). history (listOf count es)) (steps-here l n)
+      ∙ list-history count (stepsOf (rowsIn l n)) low high (let z = ap length (sym (steps-here l n)) in let y = size (stepAt l true n n) in omega arith) small
+
+  module _ (up : Bool) (x y : ℕ) (a : x < y) (b : y < n) where
+    history-moved : history (listOf count (table n (stepAt l up x y))) ≡ historyOf count (exchanged up x y (rowsIn l n))
+    history-moved =
+        ap (λ (es : List Event). history (listOf count es)) (steps-moved l n up x y a b)
+        ∙ list-history count (stepsOf (exchanged up x y (rowsIn l n))) low high
+        (let z = ap length (sym (steps-moved l n up x y a b)) in let w = size (stepAt l up x y) in omega arith)
+        (small-table (length (rowsIn l n)) (λ i. getD (rowsIn l n) (moved up x y i) noRow) (λ i. small-at (rowsIn l n) small (moved up x y i)))
+
+    pub parting-said : {mine theirs part part′ : List ℕ} {w v : ℕ} → Written (listOf count (table n (stepAt l true n n))) n mine w → Written (listOf count (table n (stepAt l up x y))) n theirs v
+        → part ≡ drop n mine → part′ ≡ drop n theirs → {d : Parting} → d ≡ difference (entries part w) (entries part′ v) → d ≡ partingOf count (rowsIn l n) up x y
+    parting-said {w = w} {v = v} p q e f g =
+        g ∙ ap₂ difference (ap (λ (k : List ℕ). entries k w) e ∙ p .says ∙ history-here) (ap (λ (k : List ℕ). entries k v) f ∙ q .says ∙ history-moved)

@@ -1,15 +1,18 @@
 // One exchange of two records that are in doubt, where the clocks allow it, and what it does to the history.
 ghost use mathlib.Core.Path.{_≡_};
 ghost use mathlib.Core.Bool.{true};
-ghost use Prim.Native.Nat.{ℕ, _+_, _*_, _≤_, _<_};
-ghost use lib.ListN.{length};
+ghost use Prim.Native.Nat.{ℕ, _+_, _*_, _-_, _≤_, _<_};
+ghost use lib.Dec.{leb};
+ghost use lib.ListN.{length, getD};
+ghost use Rattle.rules.specs.Range.{all};
+ghost use Rattle.comparing.specs.Compare.{from};
 ghost use Rattle.seqs.specs.Tables.{table};
 ghost use Rattle.text.specs.Put.{Put};
 ghost use Rattle.laws.specs.InRange.{All};
 ghost use Rattle.runner.specs.Ran.{historyRoom};
 ghost use Rattle.report.specs.Runs.{Written};
-ghost use Rattle.exchanges.specs.Rows.{rowsIn, stepsOf};
-ghost use Rattle.exchanges.specs.Exchange.{moved, partingOf};
+ghost use Rattle.exchanges.specs.Rows.{noRow, rowIn, rowsIn, stepsOf};
+ghost use Rattle.exchanges.specs.Exchange.{moved, mayPass, allowed, partingOf};
 ghost use Rattle.exchanges.specs.Bytes.{flat, listOf, Small};
 ghost use Rattle.exchanges.specs.Filling.{stepAt};
 
@@ -106,4 +109,54 @@ pub fn parting(rows: &[u64], n: usize, nodes: u8, up: bool, x: usize, y: usize) 
     let writes = run_moved(rows, n, nodes, true, n, n, &mut mine);
     let others = run_moved(rows, n, nodes, up, x, y, &mut theirs);
     partings::difference(&mine[n..], writes as usize, &theirs[n..], others as usize)
+}
+
+// ---- whether the clocks allow it
+
+// Whether a record of this time may stand before one of the other. The sum could be too large for a number of the machine.
+pub fn may_precede(time: u64, other: u64, bound: u64) -> bool
+    ensures { λ r. ⌜ r ≡ leb time (other + bound) ⌝ }
+{
+    if time <= other {
+        return true;
+    }
+    time - other <= bound
+}
+
+// Whether record m may pass record z, upwards or downwards.
+fn passes(rows: &[u64], bound: u64, up: bool, m: usize, z: usize) -> bool
+    requires { ⌜ (5 * m + 5 ≤ length (now rows)) × (5 * z + 5 ≤ length (now rows)) ⌝ }
+    ensures { λ r. ⌜ r ≡ mayPass bound up (rowIn (now (rows .entry)) m) (rowIn (now (rows .entry)) z) ⌝ }
+{
+    let other = rows[5 * z + 1] != rows[5 * m + 1];
+    if up {
+        return other & may_precede(rows[5 * m + 2], rows[5 * z + 2], bound);
+    }
+    other & may_precede(rows[5 * z + 2], rows[5 * m + 2], bound)
+}
+
+// Whether record m may pass all from a start to an end.
+fn passes_all(rows: &[u64], n: usize, bound: u64, up: bool, m: usize, start: usize, end: usize) -> bool
+    requires { ⌜ (5 * n ≤ length (now rows)) × (m < n) × (start ≤ end) × (end ≤ n) ⌝ }
+    ensures { λ r. ⌜ r ≡ all (λ z. mayPass bound up (getD (rowsIn (now (rows .entry)) n) m noRow) (getD (rowsIn (now (rows .entry)) n) z noRow)) (from start (end - start)) ⌝ }
+{
+    let mut z = start;
+    while z < end {
+        if !passes(rows, bound, up, m, z) {
+            return false;
+        }
+        z += 1;
+    }
+    true
+}
+
+// Whether the clocks allow the exchange.
+pub fn allowed(rows: &[u64], n: usize, bound: u64, up: bool, x: usize, y: usize) -> bool
+    requires { ⌜ (5 * n ≤ length (now rows)) × (x < y) × (y < n) ⌝ }
+    ensures { λ r. ⌜ r ≡ allowed bound (rowsIn (now (rows .entry)) n) up x y ⌝ }
+{
+    if up {
+        return passes_all(rows, n, bound, up, y, x, y);
+    }
+    passes_all(rows, n, bound, up, x, x + 1, y + 1)
 }

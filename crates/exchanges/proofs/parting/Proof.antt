@@ -1,10 +1,14 @@
+-- `parting` meets its contract. Assumes nothing.
+use mathlib.Core.Bool.{true}
+use Prim.Native.Nat.{ℕ, _-_}
+use native.Mathlib.Omega.{arith}
+use lib.ListN.{length, drop, length-drop, length-replicate}
+use lib.Seq.{take-all}
+use Rattle.exchanges.specs.Moves.{before-both, moved-inside}
+use Rattle.exchanges.specs.Ran.{parting-said}
 use borrow.Author.Needs.{needs}
 use Rattle.exchanges.proofs.parting.Statement.{statement}
 use Rattle.exchanges.proofs.parting.Tie as tie
-use Rattle.exchanges.proofs.parting.Reads as reads
-use Rattle.exchanges.proofs.parting.Lts as lts
-use Rattle.exchanges.proofs.run_moved.Reads as run-moved-reads
-use Rattle.partings.proofs.difference.Reads as difference-reads
 
 -- src/lib.rt:106:56
 slice-aggregate-run-moved : tie.Need-slice-aggregate-run-moved
@@ -12,7 +16,7 @@ slice-aggregate-run-moved c = search needs
 
 -- src/lib.rt:106:9
 run-moved-requires : tie.Need-run-moved-requires
-run-moved-requires c κs = ?
+run-moved-requires c κs = let p = c .before .before .pre in (p .0, p .1, p .2, p .3, (λ i h. rw (← before-both (c .before .before .args .n) (c .before .before .args .n) i true h) h), (let r = length-replicate {A = ℕ} 36858 0 in let q = p .0 in omega arith))
 
 -- src/lib.rt:107:54
 slice-aggregate-run-moved-2 : tie.Need-slice-aggregate-run-moved-2
@@ -20,7 +24,7 @@ slice-aggregate-run-moved-2 c = search needs
 
 -- src/lib.rt:107:9
 run-moved-requires-2 : tie.Need-run-moved-requires-2
-run-moved-requires-2 c κs = ?
+run-moved-requires-2 c κs = let p = c .before .before .before .before .before .pre in let a = c .before .before .before .before .before .args in (p .0, p .1, p .2, p .3, (λ i h. moved-inside (a .up) (a .x) (a .y) i (a .n) (p .4) (p .5) h), (let r = length-replicate {A = ℕ} 36858 0 in let q = p .0 in omega arith))
 
 -- src/lib.rt:108:26
 sub-difference : tie.Need-sub-difference
@@ -60,7 +64,7 @@ difference-requires c κs = search needs
 
 -- src/lib.rt:100:1
 returns : tie.Need-returns
-returns c = ?
+returns c = let p = c .before .before .before .before .before .before .before .before .before .before .before .before .pre in let a = c .before .before .before .before .before .before .before .before .before .before .before .before .args in let mine = c .before .before .before .before .before .before .before .before .before .run-moved .last .1 .1 .1 .1 .1 .1 .0 in let theirs = c .before .before .before .before .before .before .run-moved2 .last .1 .1 .1 .1 .1 .1 .0 in parting-said (a .nodes) (a .rows .now) (a .n) (p .1) (p .2) (p .0) (p .6) (a .up) (a .x) (a .y) (p .4) (p .5) (c .before .before .before .before .before .before .before .before .before .run-moved .ensures) (c .before .before .before .before .before .before .run-moved2 .ensures) (take-all (36858 - a .n) (drop (a .n) mine) (simp length-drop (omega arith))) (take-all (36858 - a .n) (drop (a .n) theirs) (simp length-drop (omega arith))) (c .difference .ensures)
 
 pub parting-spec : {M : Type 1} → statement M
 parting-spec =
