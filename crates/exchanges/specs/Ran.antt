@@ -28,7 +28,7 @@ module _ (count : ℕ) (es : List Event) (low : 1 ≤ count) (high : count ≤ 8
   ran-list {n} size l before {after} {returned} is room r o =
       let c = list-count count es low high few ∙ size in
       let w = written-run (listOf count es) before after returned (list-good count es low high few) (omega arith)
-          (r ∙ ap (λ (x : List ℕ). ran x before .returned) is) (o ∙ ap (λ (x : List ℕ). ran x before .out) is) in
+      (r ∙ ap (λ (x : List ℕ). ran x before .returned) is) (o ∙ ap (λ (x : List ℕ). ran x before .out) is) in
       (w .0, rw c at (w .1))
 
   -- The history of its run is that of the steps.

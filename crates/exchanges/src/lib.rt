@@ -15,7 +15,6 @@ ghost use Rattle.exchanges.specs.Rows.{noRow, rowIn, rowsIn, stepsOf};
 ghost use Rattle.exchanges.specs.Exchange.{moved, mayPass, allowed, partingOf};
 ghost use Rattle.exchanges.specs.Bytes.{flat, listOf, Small};
 ghost use Rattle.exchanges.specs.Filling.{stepAt};
-
 use partings::Parting;
 
 // Room for the answers to 32,762 records, and for a full history.
@@ -67,7 +66,15 @@ fn put_records(list: &mut [u8], rows: &[u64], n: usize, up: bool, x: usize, y: u
 }
 
 // The exchanged merge as an event list.
-fn put_list(list: &mut [u8], rows: &[u64], n: usize, nodes: u8, up: bool, x: usize, y: usize) -> usize
+fn put_list(
+    list: &mut [u8],
+    rows: &[u64],
+    n: usize,
+    nodes: u8,
+    up: bool,
+    x: usize,
+    y: usize,
+) -> usize
     requires { ⌜ (n ≤ 32762) × (5 * n ≤ length (now rows)) × (2 * n + 12 ≤ length (now list)) × ((i : ℕ) → i < n → moved up x y i < n) ⌝ }
     ensures { λ r. ⌜ Put (now (list .entry)) 0 (listOf nodes (table n (stepAt (now (rows .entry)) up x y))) (now (list .exit)) r × (r ≡ 2 * n + 12) ⌝ }
 {
@@ -136,7 +143,15 @@ fn passes(rows: &[u64], bound: u64, up: bool, m: usize, z: usize) -> bool
 }
 
 // Whether record m may pass all from a start to an end.
-fn passes_all(rows: &[u64], n: usize, bound: u64, up: bool, m: usize, start: usize, end: usize) -> bool
+fn passes_all(
+    rows: &[u64],
+    n: usize,
+    bound: u64,
+    up: bool,
+    m: usize,
+    start: usize,
+    end: usize,
+) -> bool
     requires { ⌜ (5 * n ≤ length (now rows)) × (m < n) × (start ≤ end) × (end ≤ n) ⌝ }
     ensures { λ r. ⌜ r ≡ all (λ z. mayPass bound up (getD (rowsIn (now (rows .entry)) n) m noRow) (getD (rowsIn (now (rows .entry)) n) z noRow)) (from start (end - start)) ⌝ }
 {
