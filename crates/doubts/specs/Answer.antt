@@ -1,23 +1,34 @@
 -- What the program prints for the text of a merged log.
-use mathlib.Core.Bool.{cond}
+use mathlib.Core.Bool.{true, false, cond}
 use mathlib.Core.List.{List, [], _∷_, _++_}
 use Prim.Native.Nat.{ℕ, zero, suc}
 use lib.Dec.{eqb, leb}
 use lib.ListN.{length, getD}
 use Rattle.report.specs.Line.{line}
 use Rattle.report.specs.Words as R
+use Rattle.report.specs.Report.{partingLine}
+use Rattle.exchanges.specs.Exchange.{allowed, partingOf}
 use Rattle.logtext.specs.Log.{longestText, Row, rowNumbers, Reading, readText}
 use Rattle.doubts.specs.declared.Pair.{Pair}
-use Rattle.doubts.specs.Doubts.{noRow, doubts}
+use Rattle.exchanges.specs.Rows.{noRow}
+use Rattle.doubts.specs.Doubts.{doubts}
 use Rattle.doubts.specs.Words as W
 
 -- A pair in doubt: line, log, time, kind and node of both records.
 abbrev pub pairLine : List Row → Pair → List ℕ
 pairLine rows p = line W.doubt (rowNumbers (getD rows (p .x) noRow) ++ rowNumbers (getD rows (p .y) noRow))
 
--- A pair, and what is known of it.
-abbrev pub pairText : List Row → Pair → List ℕ
-pairText rows p = pairLine rows p ++ line W.unsettled []
+-- What the exchange does that the clocks allow: the second record moved up to the first, or else the first moved down to the second.
+unfoldable pub outcome : ℕ → ℕ → List Row → Pair → List ℕ
+outcome count bound rows p =
+    cond (allowed bound rows true (p .x) (p .y))
+    (partingLine (partingOf count rows true (p .x) (p .y)))
+    (cond (allowed bound rows false (p .x) (p .y))
+    (partingLine (partingOf count rows false (p .x) (p .y)))
+    (line W.unsettled []))
+
+abbrev pub pairText : ℕ → ℕ → List Row → Pair → List ℕ
+pairText count bound rows p = pairLine rows p ++ outcome count bound rows p
 
 -- The first so many of them; and whether there are more.
 unfoldable pub shown : (Pair → List ℕ) → ℕ → List Pair → List ℕ
@@ -35,7 +46,7 @@ doubtsText f [] = line R.same []
 doubtsText f (p ∷ ps) = shown f mostShown (p ∷ ps)
 
 abbrev pub logText : ℕ → ℕ → List Row → List ℕ
-logText count bound rows = doubtsText (pairText rows) (doubts count bound rows)
+logText count bound rows = doubtsText (pairText count bound rows) (doubts count bound rows)
 
 abbrev pub readingText : Reading → List ℕ
 readingText r = cond (eqb (r .refused) 0) (logText (r .nodes) (r .bound) (r .rows)) (line W.refusedLine (r .refused ∷ []))

@@ -1,13 +1,13 @@
 -- The records of a merged log that are in doubt: two of them, of different logs and dependent, whose clocks allow the other order.
 use mathlib.Core.Bool.{Bool, not}
 use mathlib.Core.List.{List, [], _∷_, _++_, map}
-use Prim.Native.Nat.{ℕ, suc, _+_, _*_, _-_}
+use Prim.Native.Nat.{ℕ, suc, _-_}
 use lib.ListN.{length, getD}
-use Rattle.seqs.specs.Tables.{table}
 use Rattle.verdict.specs.Pairs.{only}
 use Rattle.verdict.specs.Clocks.{clocks, fixed}
 use Rattle.comparing.specs.Compare.{from}
 use Rattle.logtext.specs.Log.{Row}
+use Rattle.exchanges.specs.Rows.{noRow}
 use Rattle.doubts.specs.declared.Pair.{Pair}
 
 -- ---- two records
@@ -15,10 +15,6 @@ use Rattle.doubts.specs.declared.Pair.{Pair}
 -- x stands before y. Among `count` nodes, and with clocks at most `bound` apart.
 unfoldable pub inDoubt : ℕ → ℕ → Row → Row → Bool
 inDoubt count bound x y = not (fixed count (clocks bound) (x .logged) (y .logged))
-
--- Where there is no record.
-abbrev pub noRow : Row
-noRow = record { line = 0; logged = record { log = 0; time = 0; event = record { kind = 0; node = 0 } } }
 
 abbrev pub doubtAt : ℕ → ℕ → List Row → ℕ → ℕ → Bool
 doubtAt count bound rows x y = inDoubt count bound (getD rows x noRow) (getD rows y noRow)
@@ -37,19 +33,3 @@ module _ (test : ℕ → ℕ → Bool) (n : ℕ) where
 -- The pairs in doubt, by the places of their records.
 abbrev pub doubts : ℕ → ℕ → List Row → List Pair
 doubts count bound rows = pairs (doubtAt count bound rows) (length rows) (from 0 (length rows))
-
--- ---- records as numbers, five of them to each
-
-abbrev pub rowIn : List ℕ → ℕ → Row
-rowIn l i = record {
-  line = getD l (5 * i) 0;
-  logged = record {
-    log = getD l (5 * i + 1) 0;
-    time = getD l (5 * i + 2) 0;
-    event = record { kind = getD l (5 * i + 3) 0; node = getD l (5 * i + 4) 0 };
-  };
-}
-
--- The first n of them.
-abbrev pub rowsIn : List ℕ → ℕ → List Row
-rowsIn l n = table n (rowIn l)

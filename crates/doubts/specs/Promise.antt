@@ -24,7 +24,8 @@ use Rattle.report.specs.Words as R
 use Rattle.logtext.specs.Log.{longestText, Row, Reading, readText}
 use Rattle.logtext.specs.Known.{few-nodes, good-nodes}
 use Rattle.doubts.specs.declared.Pair.{Pair}
-use Rattle.doubts.specs.Doubts.{inDoubt, noRow, doubtAt, pairsWith, pairs, doubts}
+use Rattle.exchanges.specs.Rows.{noRow}
+use Rattle.doubts.specs.Doubts.{inDoubt, doubtAt, pairsWith, pairs, doubts}
 use Rattle.doubts.specs.Words as W
 use Rattle.doubts.specs.Answer.{pairText, shown, mostShown, doubtsText, logText, readingText, answer}
 
@@ -90,7 +91,7 @@ pub said-same : (count bound : ℕ) (rows : List Row) → logText count bound ro
 unfolding doubtsText shown line
 said-same count bound rows e = go (doubts count bound rows) e
   where
-    go : (ps : List Pair) → doubtsText (pairText rows) ps ≡ line R.same [] → ps ≡ []
+    go : (ps : List Pair) → doubtsText (pairText count bound rows) ps ≡ line R.same [] → ps ≡ []
     go [] e = refl
     go (p ∷ ps) e = absurd (let z : _≡_ {A = ℕ} 100 115 = cc in omega arith)
 

@@ -11,12 +11,22 @@ use borrow.Author.Tests.{eq-eqb, ne-eqb, le-leb, lt-leb}
 use Rattle.seqs.specs.Tables.{table-of}
 use Rattle.report.specs.Line.{line}
 use Rattle.logtext.specs.Log.{longestText, Row, readText, rowNumbers, numbersIn, logOf}
-use Rattle.logtext.specs.Known.{few-rows, few-nodes}
+use Rattle.logtext.specs.Known.{few-rows, few-nodes, good-nodes, small-rows}
 use Rattle.logtext.specs.Reads.{rowRoom}
 use Rattle.logtext.specs.declared.Log.{Log}
-use Rattle.doubts.specs.Doubts.{noRow, rowIn, rowsIn}
+use Rattle.exchanges.specs.Rows.{noRow, rowIn, rowsIn, stepsOf}
+use Rattle.exchanges.specs.Bytes.{Small}
+use Rattle.laws.specs.InRange.{All}
 use Rattle.doubts.specs.Words as W
 use Rattle.doubts.specs.Answer.{logText, answer}
+
+-- What is known of the numbers of a good log: there are n records, with kinds and nodes that fit bytes.
+pub record Known (count : ℕ) (l : List ℕ) (n : ℕ) : Type 0 where
+  pub low : 1 ≤ count
+  pub high : count ≤ 8
+  pub few : n ≤ 32762
+  pub room : 5 * n ≤ length l
+  pub small : All Small (stepsOf (rowsIn l n))
 
 -- ---- numbers
 
@@ -57,11 +67,26 @@ module _ (text : List ℕ) {r : Log} (e : r ≡ logOf (readText text)) (before a
   pub read-size : length after ≡ rowRoom
   read-size = ap length o ∙ length-sets before 0 (numbersIn (readText text .rows)) ∙ size
 
-  pub read-nodes : r .nodes ≤ 8
-  read-nodes = let z = few-nodes text in let y = ap (λ (x : Log). x .nodes) e in omega arith
+  rows-here : rowsIn after (r .count) ≡ readText text .rows
+  rows-here =
+      let few = few-rows text in
+      ap (λ (x : Log). rowsIn after (x .count)) e ∙ rows-said (readText text .rows) before after (omega arith) o
 
-  pub read-rows : 5 * r .count ≤ length after
-  read-rows = let z = few-rows text in let y = ap (λ (x : Log). x .count) e in let w = read-size in omega arith
+  pub read-known : r .refused ≡ 0 → Known (r .nodes) after (r .count)
+  read-known d =
+      let n = ap (λ (x : Log). x .nodes) e in
+      let few = few-rows text in
+      let y = ap (λ (x : Log). x .count) e in
+      let w = read-size in
+      let low = good-nodes text (sym (ap (λ (x : Log). x .refused) e) ∙ d) in
+      let high = few-nodes text in
+      record {
+        low = omega arith;
+        high = omega arith;
+        few = omega arith;
+        room = omega arith;
+        small = rw rows-here (small-rows text);
+      }
 
   pub read-refused : length text ≤ longestText → r .refused ≢ 0 → line W.refusedLine (r .refused ∷ []) ≡ answer text
   unfolding answer
@@ -73,8 +98,6 @@ module _ (text : List ℕ) {r : Log} (e : r ≡ logOf (readText text)) (before a
   unfolding answer
   read-good h d =
       let none : readText text .refused ≡ 0 = sym (ap (λ (x : Log). x .refused) e) ∙ d in
-      let few = few-rows text in
-      let rows : rowsIn after (length (readText text .rows)) ≡ readText text .rows = rows-said (readText text .rows) before after (omega arith) o in
-      ap (λ (x : Log). logText (x .nodes) (x .bound) (rowsIn after (x .count))) e
-      ∙ ap (logText (readText text .nodes) (readText text .bound)) rows
+      ap (logText (r .nodes) (r .bound)) rows-here
+      ∙ ap (λ (x : Log). logText (x .nodes) (x .bound) (readText text .rows)) e
       ∙ rw (le-leb (length text) longestText h, eq-eqb (readText text .refused) 0 none)

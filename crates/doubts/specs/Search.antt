@@ -7,7 +7,7 @@ use native.Mathlib.Numerals.{add-one}
 use native.Mathlib.Omega.{arith}
 use native.Mathlib.Decide.{decLt}
 use lib.Dec.{eqb, leb, ltb}
-use borrow.Author.Tests.{ltb-true, leb-true, leb-false, le-leb, lt-leb}
+use borrow.Author.Tests.{ltb-true}
 use Rattle.rules.specs.Step.{Event}
 use Rattle.logtext.specs.Numbers.{first-true, both-true}
 use lib.ListN.{length, getD}
@@ -20,7 +20,8 @@ use Rattle.letters.specs.Table.{passes-free}
 use Rattle.comparing.specs.Compare.{from}
 use Rattle.comparing.specs.Seek.{Sought}
 use Rattle.doubts.specs.declared.Pair.{Pair}
-use Rattle.doubts.specs.Doubts.{inDoubt, noRow, doubtAt, pairsWith, pairs, rowIn, rowsIn}
+use Rattle.exchanges.specs.Rows.{noRow, rowIn, rowsIn}
+use Rattle.doubts.specs.Doubts.{inDoubt, doubtAt, pairsWith, pairs}
 
 -- ---- two records
 
@@ -131,12 +132,3 @@ module _ (e : Event) where
 
   pub letter-fits : ltb (e .kind) 14 && ltb (e .node) 9 ≡ true → (e .kind < 14) × (e .node < 9)
   letter-fits t = (ltb-true _ _ (first-true (ltb (e .kind) 14) (ltb (e .node) 9) t), ltb-true _ _ (both-true (ltb (e .kind) 14) (ltb (e .node) 9) t))
-
--- ---- times
-
-pub precedes : (a b d : ℕ) → b < a → leb (a - b) d ≡ leb a (b + d)
-precedes a b d h = go (leb (a - b) d) refl
-  where
-    go : (t : Bool) → leb (a - b) d ≡ t → t ≡ leb a (b + d)
-    go true e = let k = leb-true (a - b) d e in sym (le-leb a (b + d) (omega arith))
-    go false e = let k = leb-false (a - b) d e in sym (lt-leb a (b + d) (omega arith))

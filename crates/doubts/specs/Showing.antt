@@ -1,22 +1,26 @@
 -- Pairs put into the buffer one after another. Assumes nothing.
 use mathlib.Core.Path.{_≡_, refl, sym, ap, ap₂, _∙_}
-use mathlib.Core.Bool.{Bool}
+use mathlib.Core.Bool.{Bool, true, false}
 use mathlib.Core.List.{List, [], _∷_, _++_, append-assoc, append-nil}
 use Prim.Native.Nat.{ℕ, zero, suc, _+_, _*_, _-_, _≤_, _<_}
 use native.Mathlib.Omega.{arith}
 use lib.ListN.{length}
 use Rattle.report.specs.Line.{spaced, line}
 use Rattle.report.specs.Words as R
+use Rattle.report.specs.Report.{partingLine}
+use Rattle.partings.specs.declared.Parting.{Parting}
+use Rattle.exchanges.specs.Exchange.{allowed, partingOf}
 use Rattle.seqs.specs.Tables.{table-get, table-length}
 use Rattle.comparing.specs.Compare.{from}
 use Rattle.logtext.specs.Log.{Row, rowNumbers}
 use Rattle.text.specs.Put.{Room, Put}
 use Rattle.text.specs.Puts.{put-none, put-then, put-length}
 use Rattle.doubts.specs.declared.Pair.{Pair}
-use Rattle.doubts.specs.Doubts.{noRow, doubtAt, pairs, rowIn, rowsIn}
+use Rattle.exchanges.specs.Rows.{noRow, rowIn, rowsIn}
+use Rattle.doubts.specs.Doubts.{doubtAt, pairs}
 use Rattle.doubts.specs.Search.{pairsFrom, pairs-start, Next}
 use Rattle.doubts.specs.Words as W
-use Rattle.doubts.specs.Answer.{pairLine, pairText, shown, mostShown, doubtsText, logText}
+use Rattle.doubts.specs.Answer.{pairLine, outcome, pairText, shown, mostShown, doubtsText, logText}
 
 -- The bytes of a pair, at most.
 abbrev pub pairRoom : ℕ
@@ -118,11 +122,27 @@ module _ (count bound : ℕ) (l : List ℕ) {n : ℕ} {p : Pair} (next : Next (d
   all : n ≡ length (rowsIn l n)
   all = sym (table-length n (rowIn l))
 
-  text-all : doubtsText (pairText (rowsIn l n)) (pairs (doubtAt count bound (rowsIn l n)) n (from 0 n)) ≡ logText count bound (rowsIn l n)
-  text-all = ap (λ (m : ℕ). doubtsText (pairText (rowsIn l n)) (pairs (doubtAt count bound (rowsIn l n)) m (from 0 m))) all
+  text-all : doubtsText (pairText count bound (rowsIn l n)) (pairs (doubtAt count bound (rowsIn l n)) n (from 0 n)) ≡ logText count bound (rowsIn l n)
+  text-all = ap (λ (m : ℕ). doubtsText (pairText count bound (rowsIn l n)) (pairs (doubtAt count bound (rowsIn l n)) m (from 0 m))) all
 
   pub log-same : n ≤ p .x → line R.same [] ≡ logText count bound (rowsIn l n)
-  log-same h = text-same (pairText (rowsIn l n)) (doubtAt count bound (rowsIn l n)) n next h ∙ text-all
+  log-same h = text-same (pairText count bound (rowsIn l n)) (doubtAt count bound (rowsIn l n)) n next h ∙ text-all
 
-  pub log-shown : p .x < n → shown (pairText (rowsIn l n)) mostShown (pairsFrom (doubtAt count bound (rowsIn l n)) n 0 1) ≡ logText count bound (rowsIn l n)
-  log-shown h = text-shown (pairText (rowsIn l n)) (doubtAt count bound (rowsIn l n)) n next h ∙ text-all
+  pub log-shown : p .x < n → shown (pairText count bound (rowsIn l n)) mostShown (pairsFrom (doubtAt count bound (rowsIn l n)) n 0 1) ≡ logText count bound (rowsIn l n)
+  log-shown h = text-shown (pairText count bound (rowsIn l n)) (doubtAt count bound (rowsIn l n)) n next h ∙ text-all
+
+-- ---- what an exchange does, by the tests that the code makes
+
+module _ (count bound : ℕ) (rows : List Row) (p : Pair) where
+  pub outcome-up : {a : Bool} → a ≡ allowed bound rows true (p .x) (p .y) → a ≡ true → {d : Parting} → d ≡ partingOf count rows true (p .x) (p .y) → partingLine d ≡ outcome count bound rows p
+  unfolding outcome
+  outcome-up e t f = let z = sym e ∙ t in rw (z, f)
+
+  module _ {a : Bool} (e : a ≡ allowed bound rows true (p .x) (p .y)) (u : a ≡ false) where
+    pub outcome-down : {b : Bool} → b ≡ allowed bound rows false (p .x) (p .y) → b ≡ true → {d : Parting} → d ≡ partingOf count rows false (p .x) (p .y) → partingLine d ≡ outcome count bound rows p
+    unfolding outcome
+    outcome-down g t f = let z = sym e ∙ u in let y = sym g ∙ t in rw (z, y, f)
+
+    pub outcome-open : {b : Bool} → b ≡ allowed bound rows false (p .x) (p .y) → b ≡ false → line W.unsettled [] ≡ outcome count bound rows p
+    unfolding outcome
+    outcome-open g t = let z = sym e ∙ u in let y = sym g ∙ t in rw (z, y)

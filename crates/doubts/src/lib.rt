@@ -1,17 +1,18 @@
 // The pairs of records in a merged log that are in doubt, and what the program prints of them.
 ghost use mathlib.Core.Path.{_≡_};
 ghost use Prim.Native.Nat.{_+_, _*_, _≤_, _<_};
-ghost use lib.Dec.{leb};
 ghost use lib.ListN.{length};
 ghost use Rattle.text.specs.Decimal.{decimal};
 ghost use Rattle.text.specs.Put.{Room, Put};
 ghost use Rattle.report.specs.Line.{spaced, line};
 ghost use Rattle.letters.specs.Letters.{letterOf, TableFor};
 ghost use Rattle.comparing.specs.Seek.{Sought};
-ghost use Rattle.doubts.specs.Doubts.{inDoubt, doubtAt, rowIn, rowsIn};
+ghost use Rattle.exchanges.specs.Rows.{rowIn, rowsIn};
+ghost use Rattle.doubts.specs.Doubts.{inDoubt, doubtAt};
 ghost use Rattle.doubts.specs.Search.{pairsFrom, Next};
-ghost use Rattle.doubts.specs.Answer.{pairLine, pairText, shown, mostShown, logText, answer};
+ghost use Rattle.doubts.specs.Answer.{pairLine, outcome, pairText, shown, mostShown, logText, answer};
 ghost use Rattle.doubts.specs.Showing.{longest};
+ghost use Rattle.doubts.specs.Rows.{Known};
 
 // Two records, by their places.
 pub struct Pair {
@@ -32,22 +33,12 @@ fn letter_at(rows: &[u64], i: usize) -> usize
     0
 }
 
-// Whether a record of this time may stand before one of the other. The sum could be too large for a number of the machine.
-fn may_precede(time: u64, other: u64, bound: u64) -> bool
-    ensures { λ r. ⌜ r ≡ leb time (other + bound) ⌝ }
-{
-    if time <= other {
-        return true;
-    }
-    time - other <= bound
-}
-
 fn in_doubt(rows: &[u64], table: &[u8], nodes: u8, bound: u64, x: usize, y: usize) -> bool
     requires { ⌜ TableFor nodes (now table) × (nodes ≤ 8) × (5 * x + 5 ≤ length (now rows)) × (5 * y + 5 ≤ length (now rows)) ⌝ }
     ensures { λ r. ⌜ r ≡ inDoubt nodes bound (rowIn (now (rows .entry)) x) (rowIn (now (rows .entry)) y) ⌝ }
 {
     let same_log = rows[5 * x + 1] == rows[5 * y + 1];
-    let may = may_precede(rows[5 * y + 2], rows[5 * x + 2], bound);
+    let may = exchanges::may_precede(rows[5 * y + 2], rows[5 * x + 2], bound);
     let free = table[256 * letter_at(rows, x) + letter_at(rows, y)] == 1;
     !(same_log | free | !may)
 }
@@ -171,13 +162,45 @@ fn put_pair_line(buf: &mut [u8], at: usize, rows: &[u64], n: usize, pair: Pair) 
     put_line(buf, at, b"doubt", &numbers)
 }
 
+// What the exchange of a pair does that the clocks allow.
+fn put_outcome(
+    buf: &mut [u8],
+    at: usize,
+    rows: &[u64],
+    n: usize,
+    nodes: u8,
+    bound: u64,
+    pair: Pair,
+) -> usize
+    requires { ⌜ Known nodes (now rows) n × (pair .x < pair .y) × (pair .y < n) × (at + 64 ≤ length (now buf)) ⌝ }
+    ensures { λ r. ⌜ Put (now (buf .entry)) at (outcome nodes bound (rowsIn (now (rows .entry)) n) pair) (now (buf .exit)) r × (r ≤ at + 64) ⌝ }
+{
+    if exchanges::allowed(rows, n, bound, true, pair.x, pair.y) {
+        let parting = exchanges::parting(rows, n, nodes, true, pair.x, pair.y);
+        return report::put_parting(buf, at, parting);
+    }
+    if exchanges::allowed(rows, n, bound, false, pair.x, pair.y) {
+        let parting = exchanges::parting(rows, n, nodes, false, pair.x, pair.y);
+        return report::put_parting(buf, at, parting);
+    }
+    text::put_word(buf, at, b"open\n")
+}
+
 // A pair, and what is known of it.
-fn put_pair(buf: &mut [u8], at: usize, rows: &[u64], n: usize, pair: Pair) -> usize
-    requires { ⌜ (5 * n ≤ length (now rows)) × (pair .x < n) × (pair .y < n) × (at + 320 ≤ length (now buf)) ⌝ }
-    ensures { λ r. ⌜ Put (now (buf .entry)) at (pairText (rowsIn (now (rows .entry)) n) pair) (now (buf .exit)) r × (r ≤ at + 320) ⌝ }
+fn put_pair(
+    buf: &mut [u8],
+    at: usize,
+    rows: &[u64],
+    n: usize,
+    nodes: u8,
+    bound: u64,
+    pair: Pair,
+) -> usize
+    requires { ⌜ Known nodes (now rows) n × (pair .x < pair .y) × (pair .y < n) × (at + 320 ≤ length (now buf)) ⌝ }
+    ensures { λ r. ⌜ Put (now (buf .entry)) at (pairText nodes bound (rowsIn (now (rows .entry)) n) pair) (now (buf .exit)) r × (r ≤ at + 320) ⌝ }
 {
     let next = put_pair_line(buf, at, rows, n, pair);
-    text::put_word(buf, next, b"open\n")
+    put_outcome(buf, next, rows, n, nodes, bound, pair)
 }
 
 // The pairs from the first on, as many as are shown.
@@ -190,9 +213,9 @@ fn put_doubts(
     bound: u64,
     first: Pair,
 ) -> usize
-    requires { ⌜ TableFor nodes (now table) × (nodes ≤ 8) × (5 * n ≤ length (now rows)) × (longest ≤ length (now buf))
+    requires { ⌜ TableFor nodes (now table) × Known nodes (now rows) n × (longest ≤ length (now buf))
         × Next (doubtAt nodes bound (rowsIn (now rows) n)) n 0 1 first ⌝ }
-    ensures { λ r. ⌜ Put (now (buf .entry)) 0 (shown (pairText (rowsIn (now (rows .entry)) n)) mostShown (pairsFrom (doubtAt nodes bound (rowsIn (now (rows .entry)) n)) n 0 1))
+    ensures { λ r. ⌜ Put (now (buf .entry)) 0 (shown (pairText nodes bound (rowsIn (now (rows .entry)) n)) mostShown (pairsFrom (doubtAt nodes bound (rowsIn (now (rows .entry)) n)) n 0 1))
         (now (buf .exit)) r × (r ≤ longest) ⌝ }
 {
     let mut at: usize = 0;
@@ -202,7 +225,7 @@ fn put_doubts(
         if k == MOST_SHOWN {
             return text::put_word(buf, at, b"more\n");
         }
-        at = put_pair(buf, at, rows, n, pair);
+        at = put_pair(buf, at, rows, n, nodes, bound, pair);
         pair = next_pair(rows, n, table, nodes, bound, pair.x, pair.y + 1);
         k += 1;
     }
@@ -211,7 +234,7 @@ fn put_doubts(
 
 // The text for a log that is not refused.
 fn put_log(buf: &mut [u8], rows: &[u64], n: usize, table: &[u8], nodes: u8, bound: u64) -> usize
-    requires { ⌜ TableFor nodes (now table) × (nodes ≤ 8) × (5 * n ≤ length (now rows)) × (longest ≤ length (now buf)) ⌝ }
+    requires { ⌜ TableFor nodes (now table) × Known nodes (now rows) n × (longest ≤ length (now buf)) ⌝ }
     ensures { λ r. ⌜ Put (now (buf .entry)) 0 (logText nodes bound (rowsIn (now (rows .entry)) n)) (now (buf .exit)) r × (r ≤ longest) ⌝ }
 {
     let first = next_pair(rows, n, table, nodes, bound, 0, 1);

@@ -1,20 +1,23 @@
 -- What is known of every log that was read: it has few records, and few nodes. Assumes nothing.
 use mathlib.Core.Path.{_≡_, refl}
 use mathlib.Core.Bool.{Bool, true, false, cond, _&&_}
-use mathlib.Core.List.{List, [], _∷_}
-use Prim.Native.Nat.{ℕ, suc, _+_, _≤_}
+use mathlib.Core.List.{List, [], _∷_, map}
+use Prim.Native.Nat.{ℕ, suc, _+_, _≤_, _<_}
 use native.Mathlib.Omega.{arith}
 use lib.Dec.{leb, ltb}
 use lib.ListN.{length, length-append}
-use borrow.Author.Tests.{ltb-true}
+use borrow.Author.Tests.{ltb-true, leb-true}
 use Rattle.rules.specs.Limits.{mostNodes}
 use Rattle.rules.specs.Range.{within}
+use Rattle.laws.specs.InRange.{All}
+use Rattle.laws.specs.Lists.{all-append}
 use Rattle.laws.specs.Tests.{is-within}
 use Rattle.logtext.specs.declared.Line.{Line}
 use Rattle.logtext.specs.declared.Line.the-variants.{Blank, Two, Four, Other}
 use Rattle.logtext.specs.declared.Head.{Head}
 use Rattle.logtext.specs.Text.{lines, lineOf}
-use Rattle.logtext.specs.Log.{mostRecords, fits, rowOn, Part, after, part, noHead, headOn, headed, readLines, readText}
+use Rattle.logtext.specs.Numbers.{first-true, both-true}
+use Rattle.logtext.specs.Log.{mostRecords, Row, fits, rowOn, Part, after, part, noHead, headOn, headed, readLines, readText}
 
 pub fits-few : (count k : ℕ) (l : Line) → count ≤ mostRecords → fits count l ≡ true → count + length (rowOn k l) ≤ mostRecords
 fits-few count k Blank h e = omega arith
@@ -98,3 +101,48 @@ good-nodes text = go (lines text)
     go : (ls : List (List ℕ)) → readLines ls .refused ≡ 0 → 1 ≤ readLines ls .nodes
     go [] e = absurd (omega arith)
     go (l ∷ ls) e = said (lineOf l) (part 0 2 ls) e
+
+-- ---- kinds and nodes fit bytes
+
+abbrev Small : Row → Type 0
+Small r = (r .logged .event .kind < 256) × (r .logged .event .node < 256)
+
+small-on : (count k : ℕ) (l : Line) → fits count l ≡ true → All Small (rowOn k l)
+small-on count k Blank e = tt
+small-on count k (Two a b) e = tt
+small-on count k (Four a b c d) e =
+    let x = leb-true c 255 (both-true (ltb count mostRecords) (leb c 255) (first-true (ltb count mostRecords && leb c 255) (leb d 255) e)) in
+    let y = leb-true d 255 (both-true (ltb count mostRecords && leb c 255) (leb d 255) e) in
+    ((omega arith, omega arith), tt)
+small-on count k Other e = tt
+
+small-part : (count k : ℕ) (ls : List (List ℕ)) → All Small (part count k ls .rows)
+unfolding part
+small-part count k [] = tt
+small-part count k (l ∷ ls) = go (fits count (lineOf l)) refl (small-part (count + length (rowOn k (lineOf l))) (suc k) ls)
+  where
+    rest : Part
+    rest = part (count + length (rowOn k (lineOf l))) (suc k) ls
+
+    go : (b : Bool) → fits count (lineOf l) ≡ b → All Small (rest .rows) → All Small (after b k (rowOn k (lineOf l)) rest .rows)
+    go true e s = all-append Small (rowOn k (lineOf l)) (rest .rows) (small-on count k (lineOf l) e) s
+    go false e s = tt
+
+small-steps : (rows : List Row) → All Small rows → All (λ e. (e .kind < 256) × (e .node < 256)) (map (λ r. r .logged .event) rows)
+small-steps [] s = tt
+small-steps (r ∷ rows) s = (s .0, small-steps rows (s .1))
+
+pub small-rows : (text : List ℕ) → All (λ e. (e .kind < 256) × (e .node < 256)) (map (λ r. r .logged .event) (readText text .rows))
+unfolding readText
+small-rows text = small-steps (readLines (lines text) .rows) (go (lines text))
+  where
+    head : (h : Head) (p : Part) → All Small (p .rows) → All Small (headed h p .rows)
+    head h p s = pick (h .good)
+      where
+        pick : (b : Bool) → All Small (headed (record { good = b; nodes = h .nodes; bound = h .bound }) p .rows)
+        pick true = s
+        pick false = tt
+
+    go : (ls : List (List ℕ)) → All Small (readLines ls .rows)
+    go [] = tt
+    go (l ∷ ls) = head (headOn (lineOf l)) (part 0 2 ls) (small-part 0 2 ls)

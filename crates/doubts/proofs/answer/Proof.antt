@@ -6,7 +6,7 @@ use lib.ListN.{replicate, length-replicate}
 use Rattle.text.specs.Puts.{put-length}
 use Rattle.report.specs.Says.{put-as}
 use Rattle.report.specs.Line.{spaced, line}
-use Rattle.doubts.specs.Rows.{answer-long, read-size, read-nodes, read-rows, read-refused, read-good}
+use Rattle.doubts.specs.Rows.{answer-long, read-size, read-known, read-refused, read-good}
 use borrow.Author.Needs.{needs}
 use Rattle.doubts.proofs.answer.Statement.{statement}
 use Rattle.doubts.proofs.answer.Tie as tie
@@ -62,7 +62,7 @@ slice-aggregate-put-log-2 c = search needs
 
 -- src/lib.rt:246:5
 put-log-requires : tie.Need-put-log-requires
-put-log-requires c κs = (c .before .before .before .before .fill-table .ensures, read-nodes (c .before .before .before .before .before .before .before .before .before .before .before .before .args .log .now) (c .before .before .before .before .before .before .before .before .read-log .ensures .0) (replicate 163810 0) (c .before .before .before .before .before .before .before .before .read-log .last .1 .0) (length-replicate {A = ℕ} 163810 0) (c .before .before .before .before .before .before .before .before .read-log .ensures .1), read-rows (c .before .before .before .before .before .before .before .before .before .before .before .before .args .log .now) (c .before .before .before .before .before .before .before .before .read-log .ensures .0) (replicate 163810 0) (c .before .before .before .before .before .before .before .before .read-log .last .1 .0) (length-replicate {A = ℕ} 163810 0) (c .before .before .before .before .before .before .before .before .read-log .ensures .1), search needs)
+put-log-requires c κs = (c .before .before .before .before .fill-table .ensures, read-known (c .before .before .before .before .before .before .before .before .before .before .before .before .args .log .now) (c .before .before .before .before .before .before .before .before .read-log .ensures .0) (replicate 163810 0) (c .before .before .before .before .before .before .before .before .read-log .last .1 .0) (length-replicate {A = ℕ} 163810 0) (c .before .before .before .before .before .before .before .before .read-log .ensures .1) (c .before .before .before .before .before .before .if2 .left), search needs)
 
 -- src/lib.rt:232:1
 returns-3 : tie.Need-returns-3

@@ -1,7 +1,7 @@
 -- `letter_at` meets its contract. Assumes nothing.
 use native.Mathlib.Omega.{arith}
 use Rattle.letters.specs.Known.{letter-small}
-use Rattle.doubts.specs.Doubts.{rowIn}
+use Rattle.exchanges.specs.Rows.{rowIn}
 use Rattle.doubts.specs.Search.{letter-known, letter-unknown, letter-fits}
 use borrow.Author.Needs.{needs}
 use Rattle.doubts.proofs.letter_at.Statement.{statement}

@@ -2,7 +2,8 @@
 use mathlib.Core.Path.{sym, _∙_}
 use Prim.Native.Nat.{_-_}
 use Rattle.comparing.specs.Seek.{Seeking, seek-starts, seek-more, seek-hits, seek-ends}
-use Rattle.doubts.specs.Doubts.{doubtAt, rowsIn}
+use Rattle.exchanges.specs.Rows.{rowsIn}
+use Rattle.doubts.specs.Doubts.{doubtAt}
 use Rattle.doubts.specs.Search.{doubt-in-rows}
 use borrow.Author.Needs.{needs}
 use native.Mathlib.Omega.{arith}

@@ -2,7 +2,8 @@
 use Prim.Native.Nat.{_+_, _-_}
 use Rattle.text.specs.Puts.{put-length}
 use Rattle.report.specs.Line.{spaced, line}
-use Rattle.doubts.specs.Doubts.{doubtAt, rowsIn}
+use Rattle.exchanges.specs.Rows.{rowsIn}
+use Rattle.doubts.specs.Doubts.{doubtAt}
 use Rattle.doubts.specs.Search.{pairsFrom}
 use Rattle.doubts.specs.Answer.{pairText, shown, mostShown}
 use Rattle.doubts.specs.Showing.{Showing, showing-starts, showing-ends, showing-full, showing-more}
@@ -12,14 +13,14 @@ use Rattle.doubts.proofs.put_doubts.Statement.{statement}
 use Rattle.doubts.proofs.put_doubts.Tie as tie
 
 abbrev Inv-loop : tie.InvT-loop
-Inv-loop buf₀ rows n table nodes bound at₀ k₀ pair₀ t11 buf at k pair = Showing (pairText (rowsIn rows n)) (doubtAt nodes bound (rowsIn rows n)) n (shown (pairText (rowsIn rows n)) mostShown (pairsFrom (doubtAt nodes bound (rowsIn rows n)) n 0 1)) buf₀ buf at k pair
+Inv-loop buf₀ rows n table nodes bound at₀ k₀ pair₀ t11 buf at k pair = Showing (pairText nodes bound (rowsIn rows n)) (doubtAt nodes bound (rowsIn rows n)) n (shown (pairText nodes bound (rowsIn rows n)) mostShown (pairsFrom (doubtAt nodes bound (rowsIn rows n)) n 0 1)) buf₀ buf at k pair
 
 abbrev μ-loop : tie.MeasureT-loop
 μ-loop buf₀ rows n table nodes bound at₀ k₀ pair₀ t11 buf at k pair = mostShown + 1 - k
 
 -- src/lib.rt:201:5
 loop-holds : tie.Need-loop-holds Inv-loop μ-loop
-loop-holds c = showing-starts _ _ (c .before .before .before .pre .4)
+loop-holds c = showing-starts _ _ (c .before .before .before .pre .3)
 
 -- src/lib.rt:203:44
 slice-aggregate-put-word : tie.Need-slice-aggregate-put-word Inv-loop μ-loop
@@ -27,7 +28,7 @@ slice-aggregate-put-word c = search needs
 
 -- src/lib.rt:203:13
 put-word-requires : tie.Need-put-word-requires Inv-loop μ-loop
-put-word-requires c κs = record { enough = let l = c .before .before .before .before .before .loop .inv in let s = l .short in let f = l .few in let z = put-length (l .put) in let r = c .before .before .before .before .before .before .before .before .before .pre .3 in omega arith }
+put-word-requires c κs = record { enough = let l = c .before .before .before .before .before .loop .inv in let s = l .short in let f = l .few in let z = put-length (l .put) in let r = c .before .before .before .before .before .before .before .before .before .pre .2 in omega arith }
 
 -- src/lib.rt:203:13
 same-length : tie.Need-same-length Inv-loop μ-loop
@@ -41,7 +42,7 @@ returns c = (showing-full (c .before .before .before .before .before .before .be
 
 -- src/lib.rt:205:9
 put-pair-requires : tie.Need-put-pair-requires Inv-loop μ-loop
-put-pair-requires c κs = let l = c .before .before .before .before .loop .inv in let s = l .short in let f = l .few in let z = put-length (l .put) in let r = c .before .before .before .before .before .before .before .before .pre .3 in (c .before .before .before .before .before .before .before .before .pre .2, c .before .before .if1 .taken, l .inside (c .before .before .if1 .taken), omega arith)
+put-pair-requires c κs = let l = c .before .before .before .before .loop .inv in let s = l .short in let f = l .few in let z = put-length (l .put) in let r = c .before .before .before .before .before .before .before .before .pre .2 in (c .before .before .before .before .before .before .before .before .pre .1, l .order, l .inside (c .before .before .if1 .taken), omega arith)
 
 -- src/lib.rt:206:64
 add-next-pair : tie.Need-add-next-pair Inv-loop μ-loop
@@ -49,7 +50,7 @@ add-next-pair c = let l = c .before .before .before .before .before .before .bef
 
 -- src/lib.rt:206:9
 next-pair-requires : tie.Need-next-pair-requires Inv-loop μ-loop
-next-pair-requires c κs = let l = c .before .before .before .before .before .before .before .before .loop .inv in let o = l .order in let i = l .inside (c .before .before .before .before .before .before .if1 .taken) in (c .before .before .before .before .before .before .before .before .before .before .before .before .pre .0, c .before .before .before .before .before .before .before .before .before .before .before .before .pre .1, c .before .before .before .before .before .before .before .before .before .before .before .before .pre .2, omega arith, λ h. omega arith)
+next-pair-requires c κs = let l = c .before .before .before .before .before .before .before .before .loop .inv in let o = l .order in let i = l .inside (c .before .before .before .before .before .before .if1 .taken) in (c .before .before .before .before .before .before .before .before .before .before .before .before .pre .0, c .before .before .before .before .before .before .before .before .before .before .before .before .pre .1 .high, c .before .before .before .before .before .before .before .before .before .before .before .before .pre .1 .room, omega arith, λ h. omega arith)
 
 -- src/lib.rt:207:9
 add-k : tie.Need-add-k Inv-loop μ-loop

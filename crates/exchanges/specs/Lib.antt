@@ -1,0 +1,7 @@
+pub mod Rows
+pub mod Exchange
+pub mod Bytes
+pub mod Moves
+pub mod Filling
+pub mod Ran
+pub mod Passing

@@ -1,0 +1,177 @@
+// One exchange of two records that are in doubt, where the clocks allow it, and what it does to the history.
+ghost use mathlib.Core.Path.{_≡_};
+ghost use mathlib.Core.Bool.{true};
+ghost use Prim.Native.Nat.{ℕ, _+_, _*_, _-_, _≤_, _<_};
+ghost use lib.Dec.{leb};
+ghost use lib.ListN.{length, getD};
+ghost use Rattle.rules.specs.Range.{all};
+ghost use Rattle.comparing.specs.Compare.{from};
+ghost use Rattle.seqs.specs.Tables.{table};
+ghost use Rattle.text.specs.Put.{Put};
+ghost use Rattle.laws.specs.InRange.{All};
+ghost use Rattle.runner.specs.Ran.{historyRoom};
+ghost use Rattle.report.specs.Runs.{Written};
+ghost use Rattle.exchanges.specs.Rows.{noRow, rowIn, rowsIn, stepsOf};
+ghost use Rattle.exchanges.specs.Exchange.{moved, mayPass, allowed, partingOf};
+ghost use Rattle.exchanges.specs.Bytes.{flat, listOf, Small};
+ghost use Rattle.exchanges.specs.Filling.{stepAt};
+use partings::Parting;
+
+// Room for the answers to 32,762 records, and for a full history.
+const LONGEST_OUT: usize = 36858;
+
+// What a run without writes returns.
+const NO_WRITES: u32 = 256;
+
+// The record that stands at place i of the exchanged merge.
+fn source(up: bool, x: usize, y: usize, i: usize) -> usize
+    requires { ⌜ i < 32768 ⌝ }
+    ensures { λ r. ⌜ r ≡ moved up x y i ⌝ }
+{
+    if i < x {
+        return i;
+    }
+    if up {
+        if i == x {
+            return y;
+        }
+        if i <= y {
+            return i - 1;
+        }
+        return i;
+    }
+    if i < y {
+        return i + 1;
+    }
+    if i == y {
+        return x;
+    }
+    i
+}
+
+// The records of the exchanged merge as bytes, kind and node of each.
+fn put_records(list: &mut [u8], rows: &[u64], n: usize, up: bool, x: usize, y: usize) -> usize
+    requires { ⌜ (n < 32768) × (5 * n ≤ length (now rows)) × (2 * n ≤ length (now list)) × ((i : ℕ) → i < n → moved up x y i < n) ⌝ }
+    ensures { λ r. ⌜ Put (now (list .entry)) 0 (flat (table n (stepAt (now (rows .entry)) up x y))) (now (list .exit)) r × (r ≡ 2 * n) ⌝ }
+{
+    let mut at: usize = 0;
+    let mut i: usize = 0;
+    while i < n {
+        let from = 5 * source(up, x, y, i);
+        let bytes = [(rows[from + 3] % 256) as u8, (rows[from + 4] % 256) as u8];
+        at = text::put_word(list, at, &bytes);
+        i += 1;
+    }
+    at
+}
+
+// The exchanged merge as an event list.
+fn put_list(
+    list: &mut [u8],
+    rows: &[u64],
+    n: usize,
+    nodes: u8,
+    up: bool,
+    x: usize,
+    y: usize,
+) -> usize
+    requires { ⌜ (n ≤ 32762) × (5 * n ≤ length (now rows)) × (2 * n + 12 ≤ length (now list)) × ((i : ℕ) → i < n → moved up x y i < n) ⌝ }
+    ensures { λ r. ⌜ Put (now (list .entry)) 0 (listOf nodes (table n (stepAt (now (rows .entry)) up x y))) (now (list .exit)) r × (r ≡ 2 * n + 12) ⌝ }
+{
+    let at = put_records(list, rows, n, up, x, y);
+    let trailer = [
+        0u8,
+        0,
+        0,
+        0,
+        (n % 256) as u8,
+        (n / 256) as u8,
+        0,
+        0,
+        nodes,
+        0,
+        0x4D,
+        0x41,
+    ];
+    text::put_word(list, at, &trailer)
+}
+
+// Runs it. Gives the number of writes.
+fn run_moved(rows: &[u64], n: usize, nodes: u8, up: bool, x: usize, y: usize, out: &mut [u8]) -> u32
+    requires { ⌜ (n ≤ 32762) × (1 ≤ nodes) × (nodes ≤ 8) × (5 * n ≤ length (now rows)) × ((i : ℕ) → i < n → moved up x y i < n) × (n + historyRoom ≤ length (now out)) ⌝ }
+    ensures { λ r. ⌜ Written (listOf nodes (table n (stepAt (now (rows .entry)) up x y))) n (now (out .exit)) r ⌝ }
+{
+    let mut list = [0u8; lists::LONGEST];
+    let length = put_list(&mut list, rows, n, nodes, up, x, y);
+    runner::run(&list[..length], out) - NO_WRITES
+}
+
+// Where the histories of the merge at hand and of the exchanged one first differ. No record is moved by an exchange behind the last.
+pub fn parting(rows: &[u64], n: usize, nodes: u8, up: bool, x: usize, y: usize) -> Parting
+    requires { ⌜ (n ≤ 32762) × (1 ≤ nodes) × (nodes ≤ 8) × (5 * n ≤ length (now rows)) × (x < y) × (y < n) × All Small (stepsOf (rowsIn (now rows) n)) ⌝ }
+    ensures { λ r. ⌜ r ≡ partingOf nodes (rowsIn (now (rows .entry)) n) up x y ⌝ }
+{
+    let mut mine = [0u8; LONGEST_OUT];
+    let mut theirs = [0u8; LONGEST_OUT];
+    let writes = run_moved(rows, n, nodes, true, n, n, &mut mine);
+    let others = run_moved(rows, n, nodes, up, x, y, &mut theirs);
+    partings::difference(&mine[n..], writes as usize, &theirs[n..], others as usize)
+}
+
+// ---- whether the clocks allow it
+
+// Whether a record of this time may stand before one of the other. The sum could be too large for a number of the machine.
+pub fn may_precede(time: u64, other: u64, bound: u64) -> bool
+    ensures { λ r. ⌜ r ≡ leb time (other + bound) ⌝ }
+{
+    if time <= other {
+        return true;
+    }
+    time - other <= bound
+}
+
+// Whether record m may pass record z, upwards or downwards.
+fn passes(rows: &[u64], bound: u64, up: bool, m: usize, z: usize) -> bool
+    requires { ⌜ (5 * m + 5 ≤ length (now rows)) × (5 * z + 5 ≤ length (now rows)) ⌝ }
+    ensures { λ r. ⌜ r ≡ mayPass bound up (rowIn (now (rows .entry)) m) (rowIn (now (rows .entry)) z) ⌝ }
+{
+    let other = rows[5 * z + 1] != rows[5 * m + 1];
+    if up {
+        return other & may_precede(rows[5 * m + 2], rows[5 * z + 2], bound);
+    }
+    other & may_precede(rows[5 * z + 2], rows[5 * m + 2], bound)
+}
+
+// Whether record m may pass all from a start to an end.
+fn passes_all(
+    rows: &[u64],
+    n: usize,
+    bound: u64,
+    up: bool,
+    m: usize,
+    start: usize,
+    end: usize,
+) -> bool
+    requires { ⌜ (5 * n ≤ length (now rows)) × (m < n) × (start ≤ end) × (end ≤ n) ⌝ }
+    ensures { λ r. ⌜ r ≡ all (λ z. mayPass bound up (getD (rowsIn (now (rows .entry)) n) m noRow) (getD (rowsIn (now (rows .entry)) n) z noRow)) (from start (end - start)) ⌝ }
+{
+    let mut z = start;
+    while z < end {
+        if !passes(rows, bound, up, m, z) {
+            return false;
+        }
+        z += 1;
+    }
+    true
+}
+
+// Whether the clocks allow the exchange.
+pub fn allowed(rows: &[u64], n: usize, bound: u64, up: bool, x: usize, y: usize) -> bool
+    requires { ⌜ (5 * n ≤ length (now rows)) × (x < y) × (y < n) ⌝ }
+    ensures { λ r. ⌜ r ≡ allowed bound (rowsIn (now (rows .entry)) n) up x y ⌝ }
+{
+    if up {
+        return passes_all(rows, n, bound, up, y, x, y);
+    }
+    passes_all(rows, n, bound, up, x, x + 1, y + 1)
+}
