@@ -22,6 +22,7 @@ pub fn measure_all(rounds: usize, program: &str, plain: &str) {
         let log = Log { nodes: 8, bound, records: records.to_vec() };
         measure(name, &log_text(&log), rounds.min(MOST_ROUNDS), [program, plain]);
     };
+    measure("clocks ten records apart", 50, &records);
     for (place, record) in records.iter_mut().enumerate() {
         record.time = 10 * place as u64;
     }

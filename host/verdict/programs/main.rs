@@ -34,26 +34,15 @@ pub struct Program {
 }
 
 impl Program {
-    /// The program prints what is expected.
+    /// The program prints what is expected; what it says on standard error is free.
     pub fn prints(&self, arguments: &[&Path], expected: &str) -> Result<(), String> {
-        self.prints_like(arguments, expected, |printed| printed == expected).map(|_| ())
-    }
-
-    /// What the program prints, if it is like what is expected; what it says on
-    /// standard error is free.
-    pub fn prints_like(
-        &self,
-        arguments: &[&Path],
-        expected: &str,
-        like: impl Fn(&str) -> bool,
-    ) -> Result<String, String> {
         let mut command = Command::new(&self.path);
         let output = command.args(arguments).output();
         let output = output.map_err(|error| format!("{}: {error}", self.path.display()))?;
-        let printed = String::from_utf8_lossy(&output.stdout).into_owned();
-        if like(&printed) {
-            return Ok(printed);
+        if output.stdout == expected.as_bytes() {
+            return Ok(());
         }
+        let printed = String::from_utf8_lossy(&output.stdout);
         Err(format!("{command:?}\nexpected\n{expected}printed\n{printed}"))
     }
 
