@@ -2,7 +2,6 @@
 ghost use mathlib.Core.Path.{_≡_};
 ghost use Prim.Native.Nat.{_+_, _*_, _≤_, _<_};
 ghost use lib.ListN.{length};
-ghost use Rattle.text.specs.Decimal.{decimal};
 ghost use Rattle.text.specs.Put.{Room, Put};
 ghost use Rattle.report.specs.Line.{spaced, line};
 ghost use Rattle.letters.specs.Letters.{letterOf, TableFor};
@@ -100,20 +99,6 @@ const MOST_SHOWN: usize = 16;
 // Room for the longest text: 16 pairs of 320 bytes and a line of 5.
 pub const LONGEST_ANSWER: usize = 8192;
 
-const ZERO: u8 = b'0';
-
-fn put_long(buf: &mut [u8], at: usize, n: u64) -> usize
-    requires { ⌜ Room (now buf) at (decimal n) ⌝ }
-    ensures { λ r. ⌜ Put (now (buf .entry)) at (decimal n) (now (buf .exit)) r ⌝ }
-{
-    if n < 4294967296 {
-        return text::put_decimal(buf, at, n as u32);
-    }
-    let last = put_long(buf, at, n / 10);
-    let digit = [ZERO + (n % 10) as u8];
-    text::put_word(buf, last, &digit)
-}
-
 // The numbers of a line, each behind a blank.
 fn put_longs(buf: &mut [u8], at: usize, numbers: &[u64]) -> usize
     requires { ⌜ Room (now buf) at (spaced (now numbers)) ⌝ }
@@ -123,7 +108,7 @@ fn put_longs(buf: &mut [u8], at: usize, numbers: &[u64]) -> usize
     let mut i: usize = 0;
     while i < numbers.len() {
         let after = text::put_word(buf, next, b" ");
-        next = put_long(buf, after, numbers[i]);
+        next = text::put_wide(buf, after, numbers[i]);
         i += 1;
     }
     next

@@ -25,14 +25,14 @@ slice-aggregate-put-word c = search needs
 put-word-requires : tie.Need-put-word-requires Inv-loop μ-loop
 put-word-requires c κs = let l = c .before .before .before .loop in room-blank _ (l .i) (c .before .before .loop-test .taken) (c .before .before .before .before .before .before .pre) (l .inv)
 
-mul-put-long : tie.Need-mul-put-long Inv-loop μ-loop
-mul-put-long c = search needs
+mul-put-wide : tie.Need-mul-put-wide Inv-loop μ-loop
+mul-put-wide c = search needs
 
-shared-slice-read-put-long : tie.Need-shared-slice-read-put-long Inv-loop μ-loop
-shared-slice-read-put-long c = search needs
+shared-slice-read-put-wide : tie.Need-shared-slice-read-put-wide Inv-loop μ-loop
+shared-slice-read-put-wide c = search needs
 
-put-long-requires : tie.Need-put-long-requires Inv-loop μ-loop
-put-long-requires c κs = let l = c .before .before .before .before .before .before .before .before .loop in room-number _ (l .i) (c .before .before .before .before .before .before .before .loop-test .taken) (c .before .before .before .before .before .before .before .before .before .before .before .pre) (l .inv) (c .before .before .before .before .put-word .ensures)
+put-wide-requires : tie.Need-put-wide-requires Inv-loop μ-loop
+put-wide-requires c κs = let l = c .before .before .before .before .before .before .before .before .loop in room-number _ (l .i) (c .before .before .before .before .before .before .before .loop-test .taken) (c .before .before .before .before .before .before .before .before .before .before .before .pre) (l .inv) (c .before .before .before .before .put-word .ensures)
 
 add-i : tie.Need-add-i Inv-loop μ-loop
 add-i c = search needs
@@ -41,7 +41,7 @@ loop-less : tie.Need-loop-less Inv-loop μ-loop
 loop-less c = search needs
 
 loop-again : tie.Need-loop-again Inv-loop μ-loop
-loop-again c = let l = c .before .before .before .before .before .before .before .before .before .before .before .loop in spaced-more _ (l .i) (c .before .before .before .before .before .before .before .before .before .before .loop-test .taken) (l .inv) (c .before .before .before .before .before .before .before .put-word .ensures) (c .before .before .put-long .ensures)
+loop-again c = let l = c .before .before .before .before .before .before .before .before .before .before .before .loop in spaced-more _ (l .i) (c .before .before .before .before .before .before .before .before .before .before .loop-test .taken) (l .inv) (c .before .before .before .before .before .before .before .put-word .ensures) (c .before .before .put-wide .ensures)
 
 same-length : tie.Need-same-length Inv-loop μ-loop
 same-length c = put-length (c .before .loop .inv)
@@ -58,9 +58,9 @@ put-longs-spec =
     loop-holds
     slice-aggregate-put-word
     put-word-requires
-    mul-put-long
-    shared-slice-read-put-long
-    put-long-requires
+    mul-put-wide
+    shared-slice-read-put-wide
+    put-wide-requires
     add-i
     loop-less
     loop-again
