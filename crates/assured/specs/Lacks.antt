@@ -13,7 +13,8 @@ use Rattle.verdict.specs.Pairs.{kept, only}
 use Rattle.verdict.specs.Steps.{same-eq, same-refl}
 use Rattle.letters.specs.Letters.{bit}
 use Rattle.comparing.specs.declared.Finding.{Finding}
-use Rattle.comparing.specs.Compare.{same, onlyFirst, onlySecond, from, found, seek, free, equal, obstacle, looked, compare}
+use Rattle.places.specs.Places.{from, found, seek}
+use Rattle.comparing.specs.Compare.{same, onlyFirst, onlySecond, free, equal, obstacle, looked, compare}
 use Rattle.comparing.specs.Compared.{comparison, compared}
 use Rattle.comparing.specs.Refusing.{both-good}
 use Rattle.comparing.specs.Left.{nowhere}

@@ -18,7 +18,8 @@ use Rattle.audit.specs.Audit.{audit}
 use Rattle.verdict.specs.Verdict.{Exchanges, Pulled, taken, blocked, missing, met, pull, whenTaken, exchangeable, sameEvent, Independent, sameMerge}
 use Rattle.verdict.specs.Exact.{exact}
 use Rattle.comparing.specs.declared.Finding.{Finding}
-use Rattle.comparing.specs.Compare.{same, from, seek, free, equal, obstacle, looked, compare}
+use Rattle.places.specs.Places.{from, seek}
+use Rattle.comparing.specs.Compare.{same, free, equal, obstacle, looked, compare}
 use Rattle.comparing.specs.Compared.{ofSecond, nodesDiffer, refused, comparison, compared}
 use Rattle.comparing.specs.Refusing.{first-refused, second-refused, nodes-differ, both-good}
 use Rattle.assured.specs.Assured.{Merges, SameMeans, SameAssures}

@@ -13,7 +13,8 @@ use Rattle.lists.specs.EventList.{nodeCount, recordCount, recordAt}
 use Rattle.verdict.specs.Verdict.{Pulled, taken, blocked, missing, behind, met, pull}
 use Rattle.verdict.specs.Steps.{same-eq, independent-self}
 use Rattle.comparing.specs.declared.Finding.{Finding}
-use Rattle.comparing.specs.Compare.{order, from, found, seek, free, equal, obstacle, looked, compare}
+use Rattle.places.specs.Places.{from, found, seek}
+use Rattle.comparing.specs.Compare.{order, free, equal, obstacle, looked, compare}
 use Rattle.comparing.specs.Refusing.{both-good}
 use Rattle.comparing.specs.Left.{nowhere}
 use Rattle.assured.specs.Assured.{OrderNames}

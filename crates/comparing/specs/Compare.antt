@@ -1,12 +1,13 @@
 -- Comparing two merges, with names: the records of the first list are taken, in turn, out of the second, and where one cannot be taken it is said why.
 -- Places count from 0 here and from 1 in what is found.
-use mathlib.Core.Bool.{Bool, true, false}
+use mathlib.Core.Bool.{Bool}
 use mathlib.Core.Option.{Option, none, some}
 use mathlib.Core.List.{List, [], _∷_}
-use Prim.Native.Nat.{ℕ, zero, suc, _+_}
+use Prim.Native.Nat.{ℕ, _+_}
 use Rattle.rules.specs.Step.{Event}
 use Rattle.merges.specs.Independent.{independent}
 use Rattle.verdict.specs.Verdict.{Pulled, taken, blocked, missing, pull, sameEvent}
+use Rattle.places.specs.Places.{seek}
 use Rattle.comparing.specs.declared.Finding.{Finding}
 
 -- ---- what is found
@@ -26,22 +27,6 @@ onlyFirst a = record { verdict = 258; p = a + 1; q = 0; r = 0; s = 0 }
 -- A record of the second list that the first lacks.
 abbrev pub onlySecond : ℕ → Finding
 onlySecond b = record { verdict = 259; p = 0; q = 0; r = 0; s = b + 1 }
-
--- ---- places
-
--- n places, from a on.
-abbrev pub from : ℕ → ℕ → List ℕ
-from a zero = []
-from a (suc n) = a ∷ from (suc a) n
-
-abbrev pub found : Bool → ℕ → Option ℕ → Option ℕ
-found true x o = some x
-found false x o = o
-
--- The first that passes the test.
-abbrev pub seek : (ℕ → Bool) → List ℕ → Option ℕ
-seek test [] = none
-seek test (x ∷ l) = found (test x) x (seek test l)
 
 -- ---- the comparison, of the records here with those there, among `count` nodes
 

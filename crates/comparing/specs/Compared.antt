@@ -4,7 +4,8 @@ use mathlib.Core.List.{List}
 use Prim.Native.Nat.{ℕ, _+_}
 use lib.Dec.{eqb}
 use Rattle.lists.specs.EventList.{nodeCount, recordCount, recordAt, refusal}
-use Rattle.comparing.specs.Compare.{from, compare}
+use Rattle.places.specs.Places.{from}
+use Rattle.comparing.specs.Compare.{compare}
 use Rattle.comparing.specs.declared.Finding.{Finding}
 
 -- Added to the refusal of a second list.

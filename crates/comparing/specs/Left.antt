@@ -12,7 +12,7 @@ use Rattle.laws.specs.InRange.{All, Absent, Distinct}
 use Rattle.laws.specs.Lists.{all-with}
 use Rattle.verdict.specs.Verdict.{Pulled, taken, blocked, missing, behind, met, pull}
 use Rattle.verdict.specs.Pairs.{kept, only}
-use Rattle.comparing.specs.Compare.{from, found, seek}
+use Rattle.places.specs.Places.{from, found, seek}
 
 pub nowhere : {B : Type 0} {x : ℕ} → none ≡ some x → B
 nowhere e = let z : _≡_ {A = ℕ} 0 1 = cc in absurd (omega arith)

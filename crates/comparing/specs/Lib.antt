@@ -1,5 +1,4 @@
 pub mod Compare
-pub mod Seek
 pub mod Left
 pub mod Marks
 pub mod Filling

@@ -9,10 +9,11 @@ use native.Mathlib.Omega.{arith}
 use Rattle.rules.specs.Step.{Event}
 use Rattle.verdict.specs.Verdict.{sameEvent}
 use Rattle.verdict.specs.Pairs.{only}
-use Rattle.comparing.specs.Compare.{order, onlyFirst, onlySecond, from, seek, equal, obstacle}
+use Rattle.places.specs.Places.{from, seek}
+use Rattle.comparing.specs.Compare.{order, onlyFirst, onlySecond, equal, obstacle}
 use Rattle.comparing.specs.declared.Finding.{Finding}
 use Rattle.comparing.specs.Marks.{isLeft}
-use Rattle.comparing.specs.Seek.{Sought, seek-some, seek-none}
+use Rattle.places.specs.Seek.{Sought, seek-some, seek-none}
 use Rattle.comparing.specs.Left.{seek-only}
 
 -- Record a of the first list may not pass record b of the second, where `letters` says what is left of that.

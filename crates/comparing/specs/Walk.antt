@@ -18,11 +18,12 @@ use Rattle.verdict.specs.Pairs.{only}
 use Rattle.letters.specs.Letters.{letterOf, gone, TableFor, passes}
 use Rattle.letters.specs.Known.{letter-small}
 use Rattle.letters.specs.Table.{passes-gone, passes-free}
-use Rattle.comparing.specs.Compare.{same, onlyFirst, onlySecond, from, seek, free, equal, looked, compare}
+use Rattle.places.specs.Places.{from, seek}
+use Rattle.comparing.specs.Compare.{same, onlyFirst, onlySecond, free, equal, looked, compare}
 use Rattle.comparing.specs.declared.Finding.{Finding}
 use Rattle.comparing.specs.Marks.{isLeft, isStop}
 use Rattle.comparing.specs.Obstacles.{hindrance}
-use Rattle.comparing.specs.Seek.{Sought, seek-as, seek-before, seek-some, seek-none}
+use Rattle.places.specs.Seek.{Sought, seek-as, seek-before, seek-some, seek-none}
 use Rattle.comparing.specs.Left.{from-distinct, all-from, only-same, only-every, only-none, only-some, stops, pull-missing, pull-blocked, pull-taken, without}
 
 module _ (count : ℕ) (here there : ℕ → Event) (n m : ℕ) where

@@ -9,7 +9,7 @@ ghost use Rattle.runner.specs.Running.{Trails};
 ghost use Rattle.verdict.specs.Verdict.{sameEvent};
 ghost use Rattle.letters.specs.Letters.{tableSize, TableFor};
 ghost use Rattle.comparing.specs.Marks.{isLeft, isStop, isThere};
-ghost use Rattle.comparing.specs.Seek.{Sought};
+ghost use Rattle.places.specs.Seek.{Sought};
 ghost use Rattle.comparing.specs.Compare.{onlyFirst, onlySecond};
 ghost use Rattle.comparing.specs.Compared.{refused, comparison, compared};
 ghost use Rattle.comparing.specs.Filling.{Lettered};

@@ -5,7 +5,7 @@ use Prim.Native.Nat.{ℕ, suc, _-_}
 use lib.ListN.{length, getD}
 use Rattle.verdict.specs.Pairs.{only}
 use Rattle.verdict.specs.Clocks.{clocks, fixed}
-use Rattle.comparing.specs.Compare.{from}
+use Rattle.places.specs.Places.{from}
 use Rattle.logtext.specs.Log.{Row}
 use Rattle.exchanges.specs.Rows.{noRow}
 use Rattle.doubts.specs.declared.Pair.{Pair}

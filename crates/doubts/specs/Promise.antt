@@ -18,7 +18,7 @@ use Rattle.verdict.specs.Pairs.{kept, only}
 use Rattle.verdict.specs.Verdict.{Same}
 use Rattle.verdict.specs.Clocks.{Logged, events, SameLogs, clocks, Timely, fixed, NoDoubt}
 use Rattle.verdict.specs.Merging.{clock-verdict}
-use Rattle.comparing.specs.Compare.{from}
+use Rattle.places.specs.Places.{from}
 use Rattle.report.specs.Line.{line}
 use Rattle.report.specs.Words as R
 use Rattle.logtext.specs.Log.{longestText, Row, Reading, readText}

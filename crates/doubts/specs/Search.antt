@@ -17,8 +17,8 @@ use Rattle.verdict.specs.Pairs.{kept, only}
 use Rattle.verdict.specs.Clocks.{clocks, fixed}
 use Rattle.letters.specs.Letters.{letterOf, TableFor, passes}
 use Rattle.letters.specs.Table.{passes-free}
-use Rattle.comparing.specs.Compare.{from}
-use Rattle.comparing.specs.Seek.{Sought}
+use Rattle.places.specs.Places.{from}
+use Rattle.places.specs.Seek.{Sought}
 use Rattle.doubts.specs.declared.Pair.{Pair}
 use Rattle.exchanges.specs.Rows.{noRow, rowIn, rowsIn}
 use Rattle.doubts.specs.Doubts.{inDoubt, doubtAt, pairsWith, pairs}

@@ -11,7 +11,7 @@ use Rattle.report.specs.Report.{partingLine}
 use Rattle.partings.specs.declared.Parting.{Parting}
 use Rattle.exchanges.specs.Exchange.{allowed, partingOf}
 use Rattle.seqs.specs.Tables.{table-get, table-length}
-use Rattle.comparing.specs.Compare.{from}
+use Rattle.places.specs.Places.{from}
 use Rattle.logtext.specs.Log.{Row, rowNumbers}
 use Rattle.text.specs.Put.{Room, Put}
 use Rattle.text.specs.Puts.{put-none, put-then, put-length}

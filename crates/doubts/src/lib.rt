@@ -5,7 +5,7 @@ ghost use lib.ListN.{length};
 ghost use Rattle.text.specs.Put.{Room, Put};
 ghost use Rattle.report.specs.Line.{spaced, line};
 ghost use Rattle.letters.specs.Letters.{letterOf, TableFor};
-ghost use Rattle.comparing.specs.Seek.{Sought};
+ghost use Rattle.places.specs.Seek.{Sought};
 ghost use Rattle.exchanges.specs.Rows.{rowIn, rowsIn};
 ghost use Rattle.doubts.specs.Doubts.{inDoubt, doubtAt};
 ghost use Rattle.doubts.specs.Search.{pairsFrom, Next};

@@ -9,7 +9,7 @@ use Rattle.rules.specs.Range.{all}
 use Rattle.rules.specs.Step.{step, fresh}
 use Rattle.rules.specs.Run.{run}
 use Rattle.seqs.specs.Tables.{table}
-use Rattle.comparing.specs.Compare.{from}
+use Rattle.places.specs.Places.{from}
 use Rattle.partings.specs.declared.Parting.{Parting}
 use Rattle.partings.specs.Difference.{difference}
 use Rattle.logtext.specs.Log.{Row}

@@ -10,8 +10,8 @@ use lib.ListN.{length, getD}
 use borrow.Author.Tests.{leb-true, leb-false, le-leb, lt-leb, not-false}
 use Rattle.rules.specs.Range.{all}
 use Rattle.seqs.specs.Tables.{table-get}
-use Rattle.comparing.specs.Compare.{from}
-use Rattle.comparing.specs.Seek.{Seeking}
+use Rattle.places.specs.Places.{from}
+use Rattle.places.specs.Seek.{Seeking}
 use Rattle.logtext.specs.Log.{Row}
 use Rattle.exchanges.specs.Rows.{noRow, rowIn, rowsIn}
 use Rattle.exchanges.specs.Exchange.{mayPass, allowed}

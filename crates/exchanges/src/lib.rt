@@ -5,7 +5,7 @@ ghost use Prim.Native.Nat.{ℕ, _+_, _*_, _-_, _≤_, _<_};
 ghost use lib.Dec.{leb};
 ghost use lib.ListN.{length, getD};
 ghost use Rattle.rules.specs.Range.{all};
-ghost use Rattle.comparing.specs.Compare.{from};
+ghost use Rattle.places.specs.Places.{from};
 ghost use Rattle.seqs.specs.Tables.{table};
 ghost use Rattle.text.specs.Put.{Put};
 ghost use Rattle.laws.specs.InRange.{All};

@@ -14,7 +14,7 @@ use Rattle.rules.specs.Limits.{mostNodes}
 use Rattle.rules.specs.Range.{within}
 use Rattle.text.specs.Put.{Put}
 use Rattle.text.specs.Puts.{put-none, put-then}
-use Rattle.comparing.specs.Seek.{Sought}
+use Rattle.places.specs.Seek.{Sought}
 use Rattle.logtext.specs.declared.Line.{Line}
 use Rattle.logtext.specs.declared.Line.the-variants.{Blank, Two, Four, Other}
 use Rattle.logtext.specs.declared.Taken.{Taken}

@@ -12,7 +12,7 @@ use lib.ListN.{length, getD, take, drop, set, length-set, drop-of-length-le}
 use lib.Seq.{drop-cons, append-snoc, take-suc-set, take-all}
 use borrow.Author.Tests.{not-true}
 use Rattle.rules.specs.Queues.{empty}
-use Rattle.comparing.specs.Seek.{Sought}
+use Rattle.places.specs.Seek.{Sought}
 use Rattle.logtext.specs.declared.Number.{Number}
 use Rattle.logtext.specs.declared.Number.the-variants.{Value, Bad}
 use Rattle.logtext.specs.declared.Line.{Line}

@@ -12,7 +12,7 @@ use lib.ListN.{length, getD, take, drop, length-drop, drop-of-length-le}
 use lib.Seq.{getD-drop, drop-drop, drop-cons, take-all}
 use Rattle.rules.specs.Queues.{empty}
 use Rattle.verdict.specs.Pairs.{kept, only}
-use Rattle.comparing.specs.Seek.{Sought}
+use Rattle.places.specs.Seek.{Sought}
 use Rattle.logtext.specs.Text.{isNewline, isBlank, cut, pieces, lines, words}
 
 -- Whether the byte at a place is blank, as asked for.

@@ -1,7 +1,7 @@
 -- `next_with` meets its contract. Assumes nothing.
 use mathlib.Core.Path.{sym, _∙_}
 use Prim.Native.Nat.{_-_}
-use Rattle.comparing.specs.Seek.{Seeking, seek-starts, seek-more, seek-hits, seek-ends}
+use Rattle.places.specs.Seek.{Seeking, seek-starts, seek-more, seek-hits, seek-ends}
 use Rattle.exchanges.specs.Rows.{rowsIn}
 use Rattle.doubts.specs.Doubts.{doubtAt}
 use Rattle.doubts.specs.Search.{doubt-in-rows}

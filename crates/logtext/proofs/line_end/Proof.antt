@@ -2,7 +2,7 @@
 use Prim.Native.Nat.{_-_}
 use lib.ListN.{length, getD}
 use borrow.Author.Tests.{eq-eqb, ne-eqb}
-use Rattle.comparing.specs.Seek.{Seeking, seek-starts, seek-more, seek-hits, seek-ends}
+use Rattle.places.specs.Seek.{Seeking, seek-starts, seek-more, seek-hits, seek-ends}
 use Rattle.logtext.specs.Text.{isNewline}
 use borrow.Author.Needs.{needs}
 use native.Mathlib.Omega.{arith}

@@ -2,7 +2,7 @@
 use mathlib.Core.Path.{sym, _∙_}
 use Prim.Native.Nat.{_-_}
 use lib.ListN.{length}
-use Rattle.comparing.specs.Seek.{Seeking, seek-starts, seek-more, seek-hits, seek-ends}
+use Rattle.places.specs.Seek.{Seeking, seek-starts, seek-more, seek-hits, seek-ends}
 use Rattle.logtext.specs.Words.{blankIs, blank-asked}
 use borrow.Author.Needs.{needs}
 use native.Mathlib.Omega.{arith}

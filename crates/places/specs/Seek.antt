@@ -5,7 +5,7 @@ use mathlib.Core.Option.{none, some}
 use Prim.Native.Nat.{ℕ, zero, suc, _+_, _≤_, _<_}
 use native.Mathlib.Omega.{arith}
 use native.Mathlib.Decide.{decLt}
-use Rattle.comparing.specs.Compare.{from, found, seek}
+use Rattle.places.specs.Places.{from, found, seek}
 
 -- None of the places from a up to i passes the test, and i is at most `end`.
 pub record Seeking (test : ℕ → Bool) (a end i : ℕ) : Type 0 where

@@ -1,0 +1,1 @@
+// Places one after another, and a search over them: see specs/.
