@@ -4,7 +4,7 @@ use mathlib.Core.List.{List, [], _∷_, _++_}
 use Prim.Native.Nat.{ℕ, zero, suc}
 use lib.Dec.{eqb, leb}
 use lib.ListN.{length, getD}
-use Rattle.report.specs.Line.{line}
+use Rattle.text.specs.Line.{line}
 use Rattle.report.specs.Words as R
 use Rattle.report.specs.Report.{partingLine}
 use Rattle.exchanges.specs.Exchange.{allowed, partingOf}

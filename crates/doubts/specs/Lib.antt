@@ -1,6 +1,5 @@
 pub mod Doubts
 pub mod Search
-pub mod Widths
 pub mod Words
 pub mod Answer
 pub mod Showing

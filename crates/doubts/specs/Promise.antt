@@ -19,7 +19,7 @@ use Rattle.verdict.specs.Verdict.{Same}
 use Rattle.verdict.specs.Clocks.{Logged, events, SameLogs, clocks, Timely, fixed, NoDoubt}
 use Rattle.verdict.specs.Merging.{clock-verdict}
 use Rattle.places.specs.Places.{from}
-use Rattle.report.specs.Line.{line}
+use Rattle.text.specs.Line.{line}
 use Rattle.report.specs.Words as R
 use Rattle.logtext.specs.Log.{longestText, Row, Reading, readText}
 use Rattle.logtext.specs.Known.{few-nodes, good-nodes}

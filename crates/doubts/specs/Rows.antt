@@ -9,7 +9,7 @@ use lib.ListN.{length, getD, drop, length-append}
 use lib.Seq.{sets, sets-eq, length-sets}
 use borrow.Author.Tests.{eq-eqb, ne-eqb, le-leb, lt-leb}
 use Rattle.seqs.specs.Tables.{table-of}
-use Rattle.report.specs.Line.{line}
+use Rattle.text.specs.Line.{line}
 use Rattle.logtext.specs.Log.{longestText, Row, readText, rowNumbers, numbersIn, logOf}
 use Rattle.logtext.specs.Known.{few-rows, few-nodes, good-nodes, small-rows}
 use Rattle.logtext.specs.Reads.{rowRoom}

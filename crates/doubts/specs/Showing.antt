@@ -5,7 +5,7 @@ use mathlib.Core.List.{List, [], _∷_, _++_, append-assoc, append-nil}
 use Prim.Native.Nat.{ℕ, zero, suc, _+_, _*_, _-_, _≤_, _<_}
 use native.Mathlib.Omega.{arith}
 use lib.ListN.{length}
-use Rattle.report.specs.Line.{spaced, line}
+use Rattle.text.specs.Line.{spaced, line}
 use Rattle.report.specs.Words as R
 use Rattle.report.specs.Report.{partingLine}
 use Rattle.partings.specs.declared.Parting.{Parting}

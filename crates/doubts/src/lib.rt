@@ -3,7 +3,7 @@ ghost use mathlib.Core.Path.{_≡_};
 ghost use Prim.Native.Nat.{_+_, _*_, _≤_, _<_};
 ghost use lib.ListN.{length};
 ghost use Rattle.text.specs.Put.{Room, Put};
-ghost use Rattle.report.specs.Line.{spaced, line};
+ghost use Rattle.text.specs.Line.{spaced, line};
 ghost use Rattle.letters.specs.Letters.{letterOf, TableFor};
 ghost use Rattle.places.specs.Seek.{Sought};
 ghost use Rattle.exchanges.specs.Rows.{rowIn, rowsIn};

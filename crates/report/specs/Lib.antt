@@ -1,5 +1,3 @@
-pub mod Line
-pub mod Spacing
 pub mod Words
 pub mod Report
 pub mod Says

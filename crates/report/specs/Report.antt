@@ -11,7 +11,7 @@ use Rattle.comparing.specs.declared.Finding.{Finding}
 use Rattle.comparing.specs.Compared.{comparison}
 use Rattle.partings.specs.declared.Parting.{Parting}
 use Rattle.partings.specs.Difference.{difference}
-use Rattle.report.specs.Line.{line}
+use Rattle.text.specs.Line.{line}
 use Rattle.report.specs.Words as W
 
 -- "same", or what stands in the way.
@@ -42,7 +42,7 @@ runsText first second = line W.writes (length (history first) ∷ length (histor
 
 -- No text is longer.
 abbrev pub longest : ℕ
-longest = 192
+longest = 288
 
 unfoldable pub report : List ℕ → List ℕ → List ℕ
 report first second =

@@ -17,7 +17,7 @@ use Rattle.text.specs.Puts.{put-then}
 use Rattle.partings.specs.declared.Parting.{Parting}
 use Rattle.partings.specs.Difference.{difference, entries}
 use Rattle.partings.specs.Entries.{written}
-use Rattle.report.specs.Line.{line}
+use Rattle.text.specs.Line.{line}
 use Rattle.report.specs.Words as W
 use Rattle.report.specs.Report.{partingLine, history, runsText}
 use Rattle.report.specs.Says.{put-as}

@@ -9,7 +9,7 @@ use Rattle.text.specs.Put.{Put}
 use Rattle.comparing.specs.declared.Finding.{Finding}
 use Rattle.comparing.specs.Compared.{comparison}
 use Rattle.partings.specs.declared.Parting.{Parting}
-use Rattle.report.specs.Line.{line}
+use Rattle.text.specs.Line.{line}
 use Rattle.report.specs.Words as W
 use Rattle.report.specs.Report.{verdictLine, partingLine, runsText, report}
 

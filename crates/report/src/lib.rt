@@ -8,15 +8,14 @@ ghost use Rattle.runner.specs.Ran.{historyRoom};
 ghost use Rattle.runner.specs.Running.{Trails};
 ghost use Rattle.comparing.specs.Compared.{comparison};
 ghost use Rattle.text.specs.Put.{Room, Put};
-ghost use Rattle.report.specs.Line.{spaced, line};
 ghost use Rattle.report.specs.Report.{longest, verdictLine, partingLine, runsText, report};
 ghost use Rattle.report.specs.Runs.{Written};
 use comparing::Finding;
 use lists::Trailer;
 use partings::Parting;
 
-// Room for the longest text: a line of 64 bytes and two that have 128 together.
-pub const LONGEST_REPORT: usize = 192;
+// Room for the longest text: a line of 96 bytes and two that have 192 together.
+pub const LONGEST_REPORT: usize = 288;
 
 // Room for the answers to 32,762 records, and for a full history.
 const LONGEST_OUT: usize = 36858;
@@ -24,56 +23,35 @@ const LONGEST_OUT: usize = 36858;
 // What a run without writes returns.
 const NO_WRITES: u32 = 256;
 
-// The numbers of a line, each behind a blank.
-fn put_numbers(buf: &mut [u8], at: usize, numbers: &[u32]) -> usize
-    requires { ⌜ Room (now buf) at (spaced (now numbers)) ⌝ }
-    ensures { λ r. ⌜ Put (now (buf .entry)) at (spaced (now (numbers .entry))) (now (buf .exit)) r ⌝ }
-{
-    let mut next = at;
-    let mut i: usize = 0;
-    while i < numbers.len() {
-        let after = text::put_word(buf, next, b" ");
-        next = text::put_decimal(buf, after, numbers[i]);
-        i += 1;
-    }
-    next
-}
-
-// A line: a word, and numbers. A number has at most ten digits.
-pub fn put_line(buf: &mut [u8], at: usize, word: &[u8], numbers: &[u32]) -> usize
-    requires { ⌜ at + (length (now word) + 11 * length (now numbers) + 1) ≤ length (now buf) ⌝ }
-    ensures { λ r. ⌜ Put (now (buf .entry)) at (line (now (word .entry)) (now (numbers .entry))) (now (buf .exit)) r
-        × (r ≤ at + (length (now (word .entry)) + 11 * length (now (numbers .entry)) + 1)) ⌝ }
-{
-    let a = text::put_word(buf, at, word);
-    let b = put_numbers(buf, a, numbers);
-    text::put_word(buf, b, b"\n")
-}
-
 // The line of the verdict.
 fn put_verdict(buf: &mut [u8], at: usize, found: Finding) -> usize
-    requires { ⌜ at + 64 ≤ length (now buf) ⌝ }
-    ensures { λ r. ⌜ Put (now (buf .entry)) at (verdictLine found) (now (buf .exit)) r × (r ≤ at + 64) ⌝ }
+    requires { ⌜ at + 96 ≤ length (now buf) ⌝ }
+    ensures { λ r. ⌜ Put (now (buf .entry)) at (verdictLine found) (now (buf .exit)) r × (r ≤ at + 96) ⌝ }
 {
     if found.verdict == comparing::SAME {
         return text::put_word(buf, at, b"same\n");
     }
     if found.verdict == comparing::ORDER {
-        let places = [found.p, found.q, found.r, found.s];
-        return put_line(buf, at, b"order", &places);
+        let places = [
+            found.p as u64,
+            found.q as u64,
+            found.r as u64,
+            found.s as u64,
+        ];
+        return text::put_line(buf, at, b"order", &places);
     }
     if found.verdict == comparing::ONLY_FIRST {
-        let place = [found.p];
-        return put_line(buf, at, b"only first", &place);
+        let place = [found.p as u64];
+        return text::put_line(buf, at, b"only first", &place);
     }
-    let place = [found.s];
-    put_line(buf, at, b"only second", &place)
+    let place = [found.s as u64];
+    text::put_line(buf, at, b"only second", &place)
 }
 
 // The line of the first entry in which two histories differ.
 pub fn put_parting(buf: &mut [u8], at: usize, parting: Parting) -> usize
-    requires { ⌜ at + 64 ≤ length (now buf) ⌝ }
-    ensures { λ r. ⌜ Put (now (buf .entry)) at (partingLine parting) (now (buf .exit)) r × (r ≤ at + 64) ⌝ }
+    requires { ⌜ at + 128 ≤ length (now buf) ⌝ }
+    ensures { λ r. ⌜ Put (now (buf .entry)) at (partingLine parting) (now (buf .exit)) r × (r ≤ at + 128) ⌝ }
 {
     if parting.at == 0 {
         return text::put_word(buf, at, b"agrees\n");
@@ -81,13 +59,13 @@ pub fn put_parting(buf: &mut [u8], at: usize, parting: Parting) -> usize
     let one = parting.one;
     let other = parting.other;
     let entry = [
-        parting.at,
-        one.node as u32,
-        one.term as u32,
-        other.node as u32,
-        other.term as u32,
+        parting.at as u64,
+        one.node as u64,
+        one.term as u64,
+        other.node as u64,
+        other.term as u64,
     ];
-    put_line(buf, at, b"differs", &entry)
+    text::put_line(buf, at, b"differs", &entry)
 }
 
 // Runs a list that is not refused. Gives the number of writes.
@@ -110,13 +88,13 @@ fn put_runs(
     theirs: &mut [u8],
 ) -> usize
     requires { ⌜ Trails (now first) one × Trails (now second) other × (one .count + historyRoom ≤ length (now mine)) × (other .count + historyRoom ≤ length (now theirs))
-        × (at + 128 ≤ length (now buf)) ⌝ }
-    ensures { λ r. ⌜ Put (now (buf .entry)) at (runsText (now (first .entry)) (now (second .entry))) (now (buf .exit)) r × (r ≤ at + 128) ⌝ }
+        × (at + 192 ≤ length (now buf)) ⌝ }
+    ensures { λ r. ⌜ Put (now (buf .entry)) at (runsText (now (first .entry)) (now (second .entry))) (now (buf .exit)) r × (r ≤ at + 192) ⌝ }
 {
     let writes = run_good(first, one, mine);
     let others = run_good(second, other, theirs);
-    let numbers = [writes, others];
-    let next = put_line(buf, at, b"writes", &numbers);
+    let numbers = [writes as u64, others as u64];
+    let next = text::put_line(buf, at, b"writes", &numbers);
     let behind = one.count;
     let beyond = other.count;
     let parting = partings::difference(
@@ -152,17 +130,17 @@ pub fn report(first: &[u8], second: &[u8], buf: &mut [u8; LONGEST_REPORT]) -> us
 {
     let one = lists::read_trailer(first);
     if one.code != parts::DONE {
-        let code = [one.code as u32];
-        return put_line(buf, 0, b"refused first", &code);
+        let code = [one.code as u64];
+        return text::put_line(buf, 0, b"refused first", &code);
     }
     let other = lists::read_trailer(second);
     if other.code != parts::DONE {
-        let code = [other.code as u32];
-        return put_line(buf, 0, b"refused second", &code);
+        let code = [other.code as u64];
+        return text::put_line(buf, 0, b"refused second", &code);
     }
     if one.nodes != other.nodes {
-        let nodes = [one.nodes as u32, other.nodes as u32];
-        return put_line(buf, 0, b"refused nodes", &nodes);
+        let nodes = [one.nodes as u64, other.nodes as u64];
+        return text::put_line(buf, 0, b"refused nodes", &nodes);
     }
     put_comparison(buf, first, one, second, other)
 }

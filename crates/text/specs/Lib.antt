@@ -4,4 +4,6 @@ pub mod Put
 pub mod Digits
 pub mod Widths
 pub mod Puts
+pub mod Line
+pub mod Spacing
 pub mod Sample

@@ -1,8 +1,11 @@
 // The lines of the program's output, put into a lent buffer. Each function puts its bytes at a place of the buffer and answers the place behind
 // them. It asks for room for them and for nothing else.
 ghost use mathlib.Core.List.{[], _∷_};
+ghost use Prim.Native.Nat.{_+_, _*_, _≤_};
+ghost use lib.ListN.{length};
 ghost use Rattle.text.specs.Decimal.{decimal};
 ghost use Rattle.text.specs.Lines.{number, recordLine, writesLine, writeLine, refusedLine};
+ghost use Rattle.text.specs.Line.{spaced, line};
 ghost use Rattle.text.specs.Put.{Room, Put};
 
 const ZERO: u8 = b'0';
@@ -27,19 +30,12 @@ pub fn put_wide(buf: &mut [u8], at: usize, n: u64) -> usize
     put_byte(buf, last, ZERO + (n % 10) as u8)
 }
 
-pub fn put_decimal(buf: &mut [u8], at: usize, n: u32) -> usize
-    requires { ⌜ Room (now buf) at (decimal n) ⌝ }
-    ensures { λ r. ⌜ Put (now (buf .entry)) at (decimal n) (now (buf .exit)) r ⌝ }
-{
-    put_wide(buf, at, n as u64)
-}
-
 // A number with the byte that ends it.
 fn put_number(buf: &mut [u8], at: usize, n: u32, ending: u8) -> usize
     requires { ⌜ Room (now buf) at (number n ending) ⌝ }
     ensures { λ r. ⌜ Put (now (buf .entry)) at (number n ending) (now (buf .exit)) r ⌝ }
 {
-    let next = put_decimal(buf, at, n);
+    let next = put_wide(buf, at, n as u64);
     put_byte(buf, next, ending)
 }
 
@@ -54,6 +50,32 @@ pub fn put_word(buf: &mut [u8], at: usize, word: &[u8]) -> usize
         i += 1;
     }
     next
+}
+
+// Numbers, each behind a blank.
+fn put_numbers(buf: &mut [u8], at: usize, numbers: &[u64]) -> usize
+    requires { ⌜ Room (now buf) at (spaced (now numbers)) ⌝ }
+    ensures { λ r. ⌜ Put (now (buf .entry)) at (spaced (now (numbers .entry))) (now (buf .exit)) r ⌝ }
+{
+    let mut next = at;
+    let mut i: usize = 0;
+    while i < numbers.len() {
+        let after = put_word(buf, next, b" ");
+        next = put_wide(buf, after, numbers[i]);
+        i += 1;
+    }
+    next
+}
+
+// A line: a word, and numbers. A number has at most twenty digits.
+pub fn put_line(buf: &mut [u8], at: usize, word: &[u8], numbers: &[u64]) -> usize
+    requires { ⌜ at + (length (now word) + 21 * length (now numbers) + 1) ≤ length (now buf) ⌝ }
+    ensures { λ r. ⌜ Put (now (buf .entry)) at (line (now (word .entry)) (now (numbers .entry))) (now (buf .exit)) r
+        × (r ≤ at + (length (now (word .entry)) + 21 * length (now (numbers .entry)) + 1)) ⌝ }
+{
+    let a = put_word(buf, at, word);
+    let b = put_numbers(buf, a, numbers);
+    put_word(buf, b, b"\n")
 }
 
 pub fn put_record_line(

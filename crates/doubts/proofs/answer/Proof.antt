@@ -5,7 +5,7 @@ use native.Mathlib.Omega.{arith}
 use lib.ListN.{replicate, length-replicate}
 use Rattle.text.specs.Puts.{put-length}
 use Rattle.report.specs.Says.{put-as}
-use Rattle.report.specs.Line.{spaced, line}
+use Rattle.text.specs.Line.{spaced, line}
 use Rattle.doubts.specs.Rows.{answer-long, read-size, read-known, read-refused, read-good}
 use borrow.Author.Needs.{needs}
 use Rattle.doubts.proofs.answer.Statement.{statement}

@@ -1,7 +1,7 @@
 -- `put_doubts` meets its contract. Assumes nothing.
 use Prim.Native.Nat.{_+_, _-_}
 use Rattle.text.specs.Puts.{put-length}
-use Rattle.report.specs.Line.{spaced, line}
+use Rattle.text.specs.Line.{spaced, line}
 use Rattle.exchanges.specs.Rows.{rowsIn}
 use Rattle.doubts.specs.Doubts.{doubtAt}
 use Rattle.doubts.specs.Search.{pairsFrom}

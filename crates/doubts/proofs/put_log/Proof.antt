@@ -1,7 +1,7 @@
 -- `put_log` meets its contract. Assumes nothing.
 use native.Mathlib.Omega.{arith}
 use Rattle.report.specs.Says.{put-as}
-use Rattle.report.specs.Line.{spaced, line}
+use Rattle.text.specs.Line.{spaced, line}
 use Rattle.doubts.specs.Showing.{log-same, log-shown}
 use borrow.Author.Needs.{needs}
 use Rattle.doubts.proofs.put_log.Statement.{statement}

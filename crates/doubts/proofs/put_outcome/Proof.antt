@@ -1,7 +1,7 @@
 -- `put_outcome` meets its contract. Assumes nothing.
 use native.Mathlib.Omega.{arith}
 use Rattle.report.specs.Says.{put-as}
-use Rattle.report.specs.Line.{spaced, line}
+use Rattle.text.specs.Line.{spaced, line}
 use Rattle.exchanges.specs.Rows.{rowsIn}
 use Rattle.doubts.specs.Showing.{outcome-up, outcome-down, outcome-open}
 use borrow.Author.Needs.{needs}

@@ -1,6 +1,6 @@
 -- `put_parting` meets its contract. Assumes nothing.
 use native.Mathlib.Omega.{arith}
-use Rattle.report.specs.Line.{spaced, line}
+use Rattle.text.specs.Line.{spaced, line}
 use Rattle.report.specs.Says.{put-as, says-agrees, says-differs}
 use borrow.Author.Needs.{needs}
 use Rattle.report.proofs.put_parting.Statement.{statement}
@@ -31,6 +31,9 @@ cast-t16 c = search needs
 cast-t17 : tie.Need-cast-t17
 cast-t17 c = search needs
 
+cast-t18 : tie.Need-cast-t18
+cast-t18 c = search needs
+
 slice-aggregate-put-line : tie.Need-slice-aggregate-put-line
 slice-aggregate-put-line c = search needs
 
@@ -44,7 +47,7 @@ same-length-2 : tie.Need-same-length-2
 same-length-2 c = search needs
 
 returns-2 : tie.Need-returns-2
-returns-2 c = (put-as (says-differs (c .before .before .before .before .before .before .before .before .before .before .before .before .before .before .before .args .parting) (c .before .before .before .before .before .before .before .before .before .before .before .before .if1 .left)) (c .before .before .put-line .ensures .0), omega arith)
+returns-2 c = (put-as (says-differs (c .before .before .before .before .before .before .before .before .before .before .before .before .before .before .before .before .args .parting) (c .before .before .before .before .before .before .before .before .before .before .before .before .before .if1 .left)) (c .before .before .put-line .ensures .0), omega arith)
 
 pub put-parting-spec : {M : Type 1} → statement M
 put-parting-spec =
@@ -58,6 +61,7 @@ put-parting-spec =
     cast-t15
     cast-t16
     cast-t17
+    cast-t18
     slice-aggregate-put-line
     slice-aggregate-put-line-2
     put-line-requires

@@ -15,6 +15,12 @@ run-good-requires c κs = search needs
 run-good-requires-2 : tie.Need-run-good-requires-2
 run-good-requires-2 c κs = search needs
 
+cast-t21 : tie.Need-cast-t21
+cast-t21 c = search needs
+
+cast-t22 : tie.Need-cast-t22
+cast-t22 c = search needs
+
 slice-aggregate-put-line : tie.Need-slice-aggregate-put-line
 slice-aggregate-put-line c = search needs
 
@@ -88,6 +94,8 @@ put-runs-spec =
     (tie.spec
     run-good-requires
     run-good-requires-2
+    cast-t21
+    cast-t22
     slice-aggregate-put-line
     slice-aggregate-put-line-2
     put-line-requires

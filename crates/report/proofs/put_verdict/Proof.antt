@@ -1,6 +1,6 @@
 -- `put_verdict` meets its contract. Assumes nothing.
 use native.Mathlib.Omega.{arith}
-use Rattle.report.specs.Line.{spaced, line}
+use Rattle.text.specs.Line.{spaced, line}
 use Rattle.report.specs.Says.{put-as, says-same, says-order, says-first, says-second}
 use borrow.Author.Needs.{needs}
 use Rattle.report.proofs.put_verdict.Statement.{statement}
@@ -19,6 +19,18 @@ returns : tie.Need-returns
 unfolding line spaced
 returns c = (put-as (says-same (c .before .before .before .before .before .before .before .before .args .found) (c .before .before .before .before .before .if1 .taken)) (c .before .before .put-word .ensures), omega arith)
 
+cast-t16 : tie.Need-cast-t16
+cast-t16 c = search needs
+
+cast-t17 : tie.Need-cast-t17
+cast-t17 c = search needs
+
+cast-t18 : tie.Need-cast-t18
+cast-t18 c = search needs
+
+cast-t19 : tie.Need-cast-t19
+cast-t19 c = search needs
+
 slice-aggregate-put-line : tie.Need-slice-aggregate-put-line
 slice-aggregate-put-line c = search needs
 
@@ -32,7 +44,10 @@ same-length-2 : tie.Need-same-length-2
 same-length-2 c = search needs
 
 returns-2 : tie.Need-returns-2
-returns-2 c = (put-as (says-order (c .before .before .before .before .before .before .before .before .before .before .before .args .found) (c .before .before .before .before .before .before .before .before .if1 .left) (c .before .before .before .before .before .before .if2 .taken)) (c .before .before .put-line .ensures .0), omega arith)
+returns-2 c = (put-as (says-order (c .before .before .before .before .before .before .before .before .before .before .before .before .before .before .before .args .found) (c .before .before .before .before .before .before .before .before .before .before .before .before .if1 .left) (c .before .before .before .before .before .before .before .before .before .before .if2 .taken)) (c .before .before .put-line .ensures .0), omega arith)
+
+cast-t26 : tie.Need-cast-t26
+cast-t26 c = search needs
 
 slice-aggregate-put-line-3 : tie.Need-slice-aggregate-put-line-3
 slice-aggregate-put-line-3 c = search needs
@@ -47,7 +62,10 @@ same-length-3 : tie.Need-same-length-3
 same-length-3 c = search needs
 
 returns-3 : tie.Need-returns-3
-returns-3 c = (put-as (says-first (c .before .before .before .before .before .before .before .before .before .before .before .before .before .args .found) (c .before .before .before .before .before .before .before .before .before .before .if1 .left) (c .before .before .before .before .before .before .before .before .if2 .left) (c .before .before .before .before .before .before .if3 .taken)) (c .before .before .put-line2 .ensures .0), omega arith)
+returns-3 c = (put-as (says-first (c .before .before .before .before .before .before .before .before .before .before .before .before .before .before .args .found) (c .before .before .before .before .before .before .before .before .before .before .before .if1 .left) (c .before .before .before .before .before .before .before .before .before .if2 .left) (c .before .before .before .before .before .before .before .if3 .taken)) (c .before .before .put-line2 .ensures .0), omega arith)
+
+cast-t33 : tie.Need-cast-t33
+cast-t33 c = search needs
 
 slice-aggregate-put-line-5 : tie.Need-slice-aggregate-put-line-5
 slice-aggregate-put-line-5 c = search needs
@@ -62,7 +80,7 @@ same-length-4 : tie.Need-same-length-4
 same-length-4 c = search needs
 
 returns-4 : tie.Need-returns-4
-returns-4 c = (put-as (says-second (c .before .before .before .before .before .before .before .before .before .before .before .before .before .args .found) (c .before .before .before .before .before .before .before .before .before .before .if1 .left) (c .before .before .before .before .before .before .before .before .if2 .left) (c .before .before .before .before .before .before .if3 .left)) (c .before .before .put-line3 .ensures .0), omega arith)
+returns-4 c = (put-as (says-second (c .before .before .before .before .before .before .before .before .before .before .before .before .before .before .args .found) (c .before .before .before .before .before .before .before .before .before .before .before .if1 .left) (c .before .before .before .before .before .before .before .before .before .if2 .left) (c .before .before .before .before .before .before .before .if3 .left)) (c .before .before .put-line3 .ensures .0), omega arith)
 
 pub put-verdict-spec : {M : Type 1} → statement M
 put-verdict-spec =
@@ -72,16 +90,22 @@ put-verdict-spec =
     put-word-requires
     same-length
     returns
+    cast-t16
+    cast-t17
+    cast-t18
+    cast-t19
     slice-aggregate-put-line
     slice-aggregate-put-line-2
     put-line-requires
     same-length-2
     returns-2
+    cast-t26
     slice-aggregate-put-line-3
     slice-aggregate-put-line-4
     put-line-requires-2
     same-length-3
     returns-3
+    cast-t33
     slice-aggregate-put-line-5
     slice-aggregate-put-line-6
     put-line-requires-3

@@ -6,7 +6,7 @@ use native.Mathlib.Omega.{arith}
 use Rattle.runner.specs.Running.{trails}
 use Rattle.text.specs.Puts.{put-length}
 use Rattle.comparing.specs.Refusing.{code-is, code-bad, code-good}
-use Rattle.report.specs.Line as L
+use Rattle.text.specs.Line as L
 use Rattle.report.specs.Words as W
 use Rattle.report.specs.Says.{put-as, says-refused-first, says-refused-second, says-nodes, says-all}
 use borrow.Author.Needs.{needs}

@@ -4,8 +4,8 @@ use Rattle.text.specs.Puts.{puts}
 use Rattle.text.proofs.put_number.Statement.{statement}
 use Rattle.text.proofs.put_number.Tie as tie
 
-put-decimal-requires : tie.Need-put-decimal-requires
-put-decimal-requires c κs = search puts
+put-wide-requires : tie.Need-put-wide-requires
+put-wide-requires c κs = search puts
 
 put-byte-requires : tie.Need-put-byte-requires
 put-byte-requires c κs = search puts
@@ -17,4 +17,4 @@ returns : tie.Need-returns
 returns c = search puts
 
 pub put-number-spec : {M : Type 1} → statement M
-put-number-spec = tie.close (tie.spec put-decimal-requires put-byte-requires same-length returns)
+put-number-spec = tie.close (tie.spec put-wide-requires put-byte-requires same-length returns)

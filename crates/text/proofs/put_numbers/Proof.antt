@@ -1,14 +1,14 @@
--- `put_longs` meets its contract. Assumes nothing.
+-- `put_numbers` meets its contract. Assumes nothing.
 use Prim.Native.Nat.{_-_}
 use lib.ListN.{length, take}
 use Rattle.text.specs.Put.{Put}
 use Rattle.text.specs.Puts.{put-length}
-use Rattle.report.specs.Line.{spaced}
-use Rattle.report.specs.Spacing.{spaced-none, spaced-more, room-blank, room-number, spaced-all}
+use Rattle.text.specs.Line.{spaced}
+use Rattle.text.specs.Spacing.{spaced-none, spaced-more, room-blank, room-number, spaced-all}
 use borrow.Author.Needs.{needs}
 use native.Mathlib.Omega.{arith}
-use Rattle.doubts.proofs.put_longs.Statement.{statement}
-use Rattle.doubts.proofs.put_longs.Tie as tie
+use Rattle.text.proofs.put_numbers.Statement.{statement}
+use Rattle.text.proofs.put_numbers.Tie as tie
 
 abbrev Inv-loop : tie.InvT-loop
 Inv-loop buf₀ at numbers next₀ i₀ t7 buf next i = Put buf₀ at (spaced (take i numbers)) buf next
@@ -49,8 +49,8 @@ same-length c = put-length (c .before .loop .inv)
 returns : tie.Need-returns Inv-loop μ-loop
 returns c = spaced-all _ (c .before .loop .i) (c .loop-test .left) (c .before .loop .inv)
 
-pub put-longs-spec : {M : Type 1} → statement M
-put-longs-spec =
+pub put-numbers-spec : {M : Type 1} → statement M
+put-numbers-spec =
     tie.close
     (tie.spec
     Inv-loop

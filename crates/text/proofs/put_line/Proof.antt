@@ -3,16 +3,16 @@ use mathlib.Core.List.{[], _∷_}
 use Prim.Native.Nat.{ℕ, _<_}
 use native.Mathlib.Omega.{arith}
 use lib.ListN.{getD}
 use Rattle.text.specs.Lines.{newline}
 use Rattle.text.specs.Put.{Room}
 use Rattle.text.specs.Puts.{put-then, room-first, room-then}
-use Rattle.report.specs.Line.{spaced, line}
-use Rattle.report.specs.Spacing.{line-room, line-end}
+use Rattle.text.specs.Line.{spaced, line}
+use Rattle.text.specs.Spacing.{line-room, line-end}
 use borrow.Author.Needs.{needs}
-use Rattle.report.proofs.put_line.Statement.{statement}
-use Rattle.report.proofs.put_line.Tie as tie
+use Rattle.text.proofs.put_line.Statement.{statement}
+use Rattle.text.proofs.put_line.Tie as tie
 
-small : (c : tie.After-shared-slice-known2) → (i : ℕ) → getD (c .before .before .before .args .numbers .now) i 0 < 4294967296
+small : (c : tie.After-shared-slice-known2) → (i : ℕ) → getD (c .before .before .before .args .numbers .now) i 0 < 18446744073709551616
 small c i = let k = c .shared-slice-known2 .given i in omega arith
 
 room : (c : tie.After-shared-slice-known2) → let x = c .before .before .before .args in Room (x .buf .now) (x .at) (line (x .word .now) (x .numbers .now))

@@ -6,12 +6,12 @@ use native.Mathlib.Numerals.{add-one}
 use native.Mathlib.Omega.{arith}
 use lib.ListN.{length, getD, take, drop, length-append, take-append-drop}
 use lib.Seq.{take-suc, take-all}
 use Rattle.text.specs.Decimal.{decimal}
 use Rattle.text.specs.Digits.{width}
 use Rattle.text.specs.Lines.{blank}
 use Rattle.text.specs.Put.{Room, Put}
 use Rattle.text.specs.Puts.{put-none, put-then, room-first, room-then}
-use Rattle.report.specs.Line.{spaced, line}
+use Rattle.text.specs.Line.{spaced, line}
 
 spaced-append : (a b : List ℕ) → spaced (a ++ b) ≡ spaced a ++ spaced b
 unfolding spaced
@@ -51,23 +51,23 @@ module _ (ns : List ℕ) where
   pub spaced-all : {l m : List ℕ} {at a : ℕ} (i : ℕ) → length ns ≤ i → Put l at (spaced (take i ns)) m a → Put l at (spaced ns) m a
   spaced-all i h p = rw (take-all i ns h) at p
 
--- ---- how long a line is, of numbers that fit 32 bits
+-- ---- how long a line is, of numbers that fit 64 bits
 
-spaced-width : (ns : List ℕ) → ((i : ℕ) → getD ns i 0 < 4294967296) → length (spaced ns) ≤ 11 * length ns
+spaced-width : (ns : List ℕ) → ((i : ℕ) → getD ns i 0 < 18446744073709551616) → length (spaced ns) ≤ 21 * length ns
 unfolding spaced
 spaced-width [] h = omega arith
 spaced-width (n ∷ ns) h =
-    let w = width n 9 (let k = h 0 in omega arith) in
+    let w = width n 19 (let k = h 0 in omega arith) in
     let r = spaced-width ns (λ i. h (suc i)) in
     simp length-append (omega arith)
 
-module _ (word ns : List ℕ) (small : (i : ℕ) → getD ns i 0 < 4294967296) where
-  line-width : length (line word ns) ≤ length word + 11 * length ns + 1
+module _ (word ns : List ℕ) (small : (i : ℕ) → getD ns i 0 < 18446744073709551616) where
+  line-width : length (line word ns) ≤ length word + 21 * length ns + 1
   unfolding line
   line-width = let w = spaced-width ns small in simp length-append (omega arith)
 
-  pub line-room : {l : List ℕ} {at : ℕ} → at + (length word + 11 * length ns + 1) ≤ length l → Room l at (line word ns)
+  pub line-room : {l : List ℕ} {at : ℕ} → at + (length word + 21 * length ns + 1) ≤ length l → Room l at (line word ns)
   line-room h = record { enough = let w = line-width in omega arith }
 
-  pub line-end : {l m : List ℕ} {at i : ℕ} → Put l at (line word ns) m i → i ≤ at + (length word + 11 * length ns + 1)
+  pub line-end : {l m : List ℕ} {at i : ℕ} → Put l at (line word ns) m i → i ≤ at + (length word + 21 * length ns + 1)
   line-end p = let w = line-width in let z = p .place in omega arith
