@@ -1,7 +1,6 @@
 pub mod Doubts
+pub mod Index
 pub mod Search
-pub mod Words
-pub mod Answer
-pub mod Showing
-pub mod Rows
-pub mod Promise
+pub mod Found
+pub mod Inside
+pub mod Nothing

@@ -25,12 +25,6 @@ use Rattle.doubts.specs.Doubts.{inDoubt, doubtAt, pairsWith, pairs}
 
 -- ---- two records
 
-pub doubt-by-table : {count : ℕ} {t : List ℕ} → TableFor count t → count ≤ 8 → (bound : ℕ) (l : List ℕ) (x y : ℕ) (a b : ℕ) (m : Bool)
-    → a ≡ letterOf (rowIn l x .logged .event) → b ≡ letterOf (rowIn l y .logged .event) → m ≡ clocks bound (rowIn l y .logged) (rowIn l x .logged)
-    → not (eqb (rowIn l x .logged .log) (rowIn l y .logged .log) || passes t a b || not m) ≡ inDoubt count bound (rowIn l x) (rowIn l y)
-unfolding inDoubt fixed
-doubt-by-table for few bound l x y a b m p q r = rw (p, q, r, passes-free for few (rowIn l x .logged .event) (rowIn l y .logged .event))
-
 pub doubt-in-rows : (count bound : ℕ) (l : List ℕ) (n x y : ℕ) → x < n → y < n → inDoubt count bound (rowIn l x) (rowIn l y) ≡ doubtAt count bound (rowsIn l n) x y
 doubt-in-rows count bound l n x y h k = sym (ap₂ (inDoubt count bound) (table-get n (rowIn l) x noRow h) (table-get n (rowIn l) y noRow k))
 

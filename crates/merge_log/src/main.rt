@@ -40,7 +40,7 @@ fn main() {
     if LONG < n {
         io::write_all(STDERR_FILENO, b"merges: comparing the records\n");
     }
-    let mut text = [0u8; doubts::LONGEST_ANSWER];
-    let length = doubts::answer(&log[..n], &mut text);
+    let mut text = [0u8; warnings::LONGEST_ANSWER];
+    let length = warnings::answer(&log[..n], &mut text);
     io::write_all(STDOUT_FILENO, &text[..length]);
 }

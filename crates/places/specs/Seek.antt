@@ -40,6 +40,14 @@ module _ {test : ℕ → Bool} {a end : ℕ} where
     pub seek-ends : end ≤ i → Sought test a end i
     seek-ends h = record { low = s .low; high = s .high; none = s .none; hit = λ k. absurd (omega arith) }
 
+    -- None of the places that are left passes.
+    pub seek-over : ((k : ℕ) → i ≤ k → k < end → test k ≡ false) → Sought test a end end
+    seek-over f = record { low = let l = s .low in let h = s .high in omega arith; high = omega arith; none = λ k l u. go k l u (decLt k i); hit = λ h. absurd (omega arith) }
+      where
+        go : (k : ℕ) → a ≤ k → k < end → Dec (k < i) → test k ≡ false
+        go k l u (yes b) = s .none k l b
+        go k l u (no b) = f k (omega arith) u
+
 -- Another test that says the same of these places.
 pub seek-as : {test test′ : ℕ → Bool} {a end r : ℕ} → ((k : ℕ) → k < end → test k ≡ test′ k) → Sought test a end r → Sought test′ a end r
 seek-as f s = record {

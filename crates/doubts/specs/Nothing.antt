@@ -1,33 +1,20 @@
--- What "same" promises: every merge of the same logs that the clocks allow ends in the same state with the same history. Assumes nothing.
+-- Where no pair is in doubt, the order of no two dependent records is open. Assumes nothing.
 use mathlib.Core.Path.{_≡_, refl, sym, ap, _∙_}
-use mathlib.Core.Logic.{_≢_}
-use mathlib.Core.Bool.{Bool, true, false, cond, not, true≢false}
+use mathlib.Core.Bool.{Bool, true, false, not, true≢false}
 use mathlib.Core.List.{List, [], _∷_, _++_, map}
 use Prim.Native.Nat.{ℕ, zero, suc, _+_, _-_, _≤_, _<_}
-use native.Mathlib.Nat.{le-of-suc-le-suc}
 use native.Mathlib.Omega.{arith}
 use native.Mathlib.Decide.{ℕ-discrete}
-use lib.Dec.{T, eqb, leb}
+use lib.Dec.{T}
 use lib.ListN.{length, getD}
-use borrow.Author.Tests.{eqb-true}
-use Rattle.rules.specs.State.{State}
-use Rattle.rules.specs.Step.{fresh}
 use Rattle.laws.specs.InRange.{All}
-use Rattle.laws.specs.Steps.{fresh-fits}
 use Rattle.verdict.specs.Pairs.{kept, only}
-use Rattle.verdict.specs.Verdict.{Same}
-use Rattle.verdict.specs.Clocks.{Logged, events, SameLogs, clocks, Timely, fixed, NoDoubt}
-use Rattle.verdict.specs.Merging.{clock-verdict}
+use Rattle.verdict.specs.Clocks.{Logged, clocks, fixed, NoDoubt}
 use Rattle.places.specs.Places.{from}
-use Rattle.text.specs.Line.{line}
-use Rattle.report.specs.Words as R
-use Rattle.logtext.specs.Log.{longestText, Row, Reading, readText}
-use Rattle.logtext.specs.Known.{few-nodes, good-nodes}
-use Rattle.doubts.specs.declared.Pair.{Pair}
+use Rattle.logtext.specs.Log.{Row}
 use Rattle.exchanges.specs.Rows.{noRow}
+use Rattle.doubts.specs.declared.Pair.{Pair}
 use Rattle.doubts.specs.Doubts.{inDoubt, doubtAt, pairsWith, pairs, doubts}
-use Rattle.doubts.specs.Words as W
-use Rattle.doubts.specs.Answer.{pairText, shown, mostShown, doubtsText, logText, readingText, answer}
 
 -- The records of a log, without their lines.
 abbrev pub merged : List Row → List Logged
@@ -84,41 +71,3 @@ no-doubt count bound rows e =
     is-fixed : (b : Bool) → not b ≡ false → T b
     is-fixed true i = tt
     is-fixed false i = absurd (let z : _≡_ {A = Bool} true false = i in true≢false z)
-
--- ---- and "same" is said nowhere else
-
-pub said-same : (count bound : ℕ) (rows : List Row) → logText count bound rows ≡ line R.same [] → doubts count bound rows ≡ []
-unfolding doubtsText shown line
-said-same count bound rows e = go (doubts count bound rows) e
-  where
-    go : (ps : List Pair) → doubtsText (pairText count bound rows) ps ≡ line R.same [] → ps ≡ []
-    go [] e = refl
-    go (p ∷ ps) e = absurd (let z : _≡_ {A = ℕ} 100 115 = cc in omega arith)
-
--- A text for which "same" is printed was not refused, and nothing in it is in doubt.
-pub record Certain (text : List ℕ) : Type 0 where
-  pub good : readText text .refused ≡ 0
-  pub none : doubts (readText text .nodes) (readText text .bound) (readText text .rows) ≡ []
-
-pub certain : (text : List ℕ) → answer text ≡ line R.same [] → Certain text
-unfolding answer line
-certain text e = go (leb (length text) longestText) (eqb (readText text .refused) 0) refl e
-  where
-    go : (a b : Bool) → eqb (readText text .refused) 0 ≡ b
-        → cond a (cond b (logText (readText text .nodes) (readText text .bound) (readText text .rows)) (line W.refusedLine (readText text .refused ∷ []))) (line W.refusedLong []) ≡ line R.same []
-        → Certain text
-    go true true i u = record { good = eqb-true _ _ i; none = said-same (readText text .nodes) (readText text .bound) (readText text .rows) u }
-    go true false i u = absurd (let z : _≡_ {A = ℕ} 114 115 = cc in omega arith)
-    go false b i u = absurd (let z : _≡_ {A = ℕ} 114 115 = cc in omega arith)
-
--- ---- the promise, for the bytes that a user holds
-
-pub promise : (text : List ℕ) → answer text ≡ line R.same []
-    → (fs : List Logged) → SameLogs (merged (readText text .rows)) fs → Timely (clocks (readText text .bound)) fs
-    → Same (fresh (readText text .nodes)) (events (merged (readText text .rows))) (events fs)
-unfolding fresh
-promise text e fs logs timely =
-    let c = certain text e in
-    clock-verdict (fresh (readText text .nodes)) (clocks (readText text .bound)) (merged (readText text .rows))
-    (fresh-fits (readText text .nodes) (good-nodes text (c .good)) (few-nodes text))
-    (no-doubt (readText text .nodes) (readText text .bound) (readText text .rows) (c .none)) fs logs timely

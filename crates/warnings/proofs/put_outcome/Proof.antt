@@ -3,64 +3,50 @@ use native.Mathlib.Omega.{arith}
 use Rattle.report.specs.Says.{put-as}
 use Rattle.text.specs.Line.{spaced, line}
 use Rattle.exchanges.specs.Rows.{rowsIn}
-use Rattle.doubts.specs.Showing.{outcome-up, outcome-down, outcome-open}
+use Rattle.warnings.specs.Showing.{outcome-up, outcome-down, outcome-open}
 use borrow.Author.Needs.{needs}
-use Rattle.doubts.proofs.put_outcome.Statement.{statement}
-use Rattle.doubts.proofs.put_outcome.Tie as tie
+use Rattle.warnings.proofs.put_outcome.Statement.{statement}
+use Rattle.warnings.proofs.put_outcome.Tie as tie
 
--- src/lib.rt:170:8
 allowed-requires : tie.Need-allowed-requires
 allowed-requires c κs = search needs
 
--- src/lib.rt:171:13
 parting-requires : tie.Need-parting-requires
 parting-requires c κs = search needs
 
--- src/lib.rt:172:9
 put-parting-requires : tie.Need-put-parting-requires
 put-parting-requires c κs = search needs
 
--- src/lib.rt:172:9
 same-length : tie.Need-same-length
 same-length c = search needs
 
--- src/lib.rt:172:9
 returns : tie.Need-returns
 returns c = (put-as (outcome-up (c .before .before .before .before .before .before .before .before .before .args .nodes) (c .before .before .before .before .before .before .before .before .before .args .bound) (rowsIn (c .before .before .before .before .before .before .before .before .before .args .rows .now) (c .before .before .before .before .before .before .before .before .before .args .n)) (c .before .before .before .before .before .before .before .before .before .args .pair) (c .before .before .before .before .before .before .allowed .ensures) (c .before .before .before .before .before .if1 .taken) (c .before .before .before .before .parting .ensures)) (c .before .before .put-parting .ensures .0), c .before .before .put-parting .ensures .1)
 
--- src/lib.rt:174:8
 allowed-requires-2 : tie.Need-allowed-requires-2
 allowed-requires-2 c κs = search needs
 
--- src/lib.rt:175:13
 parting-requires-2 : tie.Need-parting-requires-2
 parting-requires-2 c κs = search needs
 
--- src/lib.rt:176:9
 put-parting-requires-2 : tie.Need-put-parting-requires-2
 put-parting-requires-2 c κs = search needs
 
--- src/lib.rt:176:9
 same-length-2 : tie.Need-same-length-2
 same-length-2 c = search needs
 
--- src/lib.rt:176:9
 returns-2 : tie.Need-returns-2
 returns-2 c = (put-as (outcome-down (c .before .before .before .before .before .before .before .before .before .before .before .args .nodes) (c .before .before .before .before .before .before .before .before .before .before .before .args .bound) (rowsIn (c .before .before .before .before .before .before .before .before .before .before .before .args .rows .now) (c .before .before .before .before .before .before .before .before .before .before .before .args .n)) (c .before .before .before .before .before .before .before .before .before .before .before .args .pair) (c .before .before .before .before .before .before .before .before .allowed .ensures) (c .before .before .before .before .before .before .before .if1 .left) (c .before .before .before .before .before .before .allowed2 .ensures) (c .before .before .before .before .before .if2 .taken) (c .before .before .before .before .parting2 .ensures)) (c .before .before .put-parting2 .ensures .0), c .before .before .put-parting2 .ensures .1)
 
--- src/lib.rt:178:29
 slice-aggregate-put-word : tie.Need-slice-aggregate-put-word
 slice-aggregate-put-word c = search needs
 
--- src/lib.rt:178:5
 put-word-requires : tie.Need-put-word-requires
 put-word-requires c κs = search needs
 
--- src/lib.rt:166:1
 same-length-3 : tie.Need-same-length-3
 same-length-3 c = search needs
 
--- src/lib.rt:166:1
 returns-3 : tie.Need-returns-3
 unfolding line spaced
 returns-3 c = (put-as (outcome-open (c .before .before .before .before .before .before .before .before .before .before .before .args .nodes) (c .before .before .before .before .before .before .before .before .before .before .before .args .bound) (rowsIn (c .before .before .before .before .before .before .before .before .before .before .before .args .rows .now) (c .before .before .before .before .before .before .before .before .before .before .before .args .n)) (c .before .before .before .before .before .before .before .before .before .before .before .args .pair) (c .before .before .before .before .before .before .before .before .allowed .ensures) (c .before .before .before .before .before .before .before .if1 .left) (c .before .before .before .before .before .before .allowed2 .ensures) (c .before .before .before .before .before .if2 .left)) (c .before .before .put-word .ensures), omega arith)

@@ -17,8 +17,8 @@ use Rattle.logtext.specs.declared.Log.{Log}
 use Rattle.exchanges.specs.Rows.{noRow, rowIn, rowsIn, stepsOf}
 use Rattle.exchanges.specs.Bytes.{Small}
 use Rattle.laws.specs.InRange.{All}
-use Rattle.doubts.specs.Words as W
-use Rattle.doubts.specs.Answer.{logText, answer}
+use Rattle.warnings.specs.Words as W
+use Rattle.warnings.specs.Answer.{logText, answer}
 
 -- What is known of the numbers of a good log: there are n records, with kinds and nodes that fit bytes.
 pub record Known (count : ℕ) (l : List ℕ) (n : ℕ) : Type 0 where

@@ -9,10 +9,10 @@ use Rattle.report.specs.Words as R
 use Rattle.report.specs.Report.{partingLine}
 use Rattle.exchanges.specs.Exchange.{allowed, partingOf}
 use Rattle.logtext.specs.Log.{longestText, Row, rowNumbers, Reading, readText}
 use Rattle.doubts.specs.declared.Pair.{Pair}
 use Rattle.exchanges.specs.Rows.{noRow}
 use Rattle.doubts.specs.Doubts.{doubts}
-use Rattle.doubts.specs.Words as W
+use Rattle.warnings.specs.Words as W
 
 -- A pair in doubt: line, log, time, kind and node of both records.
 abbrev pub pairLine : List Row → Pair → List ℕ

@@ -1,0 +1,54 @@
+-- `put_log` meets its contract. Assumes nothing.
+use mathlib.Core.Path.{refl, sym}
+use native.Mathlib.Omega.{arith}
+use Rattle.text.specs.Line.{spaced, line}
+use Rattle.text.specs.Puts.{put-length}
+use Rattle.report.specs.Says.{put-as}
+use Rattle.exchanges.specs.Rows.{rowsIn}
+use Rattle.doubts.specs.Doubts.{doubts}
+use Rattle.warnings.specs.Showing.{says, log-same, log-shown}
+use borrow.Author.Needs.{needs}
+use Rattle.warnings.proofs.put_log.Statement.{statement}
+use Rattle.warnings.proofs.put_log.Tie as tie
+
+first-pairs-requires : tie.Need-first-pairs-requires
+first-pairs-requires c κs = search needs
+
+slice-aggregate-put-word : tie.Need-slice-aggregate-put-word
+slice-aggregate-put-word c = search needs
+
+put-word-requires : tie.Need-put-word-requires
+put-word-requires c κs = search needs
+
+same-length : tie.Need-same-length
+same-length c = search needs
+
+returns : tie.Need-returns
+unfolding line spaced
+returns c = (put-as (log-same (c .before .before .before .before .before .before .before .before .before .before .args .nodes) (c .before .before .before .before .before .before .before .before .before .before .args .bound) (rowsIn (c .before .before .before .before .before .before .before .before .before .before .args .rows .now) (c .before .before .before .before .before .before .before .before .before .before .args .n)) (c .before .before .before .before .before .before .first-pairs .ensures .all) (c .before .before .before .before .before .if1 .taken)) (c .before .before .put-word .ensures), omega arith)
+
+slice-aggregate-put-doubts : tie.Need-slice-aggregate-put-doubts
+slice-aggregate-put-doubts c = sym (put-length (c .before .before .before .first-pairs .ensures .put))
+
+put-doubts-requires : tie.Need-put-doubts-requires
+put-doubts-requires c κs = (c .before .before .before .before .before .before .before .pre .0, c .before .before .before .before .before .before .before .pre .1, says (doubts (c .before .before .before .before .before .before .before .args .nodes) (c .before .before .before .before .before .before .before .args .bound) (rowsIn (c .before .before .before .before .before .before .before .args .rows .now) (c .before .before .before .before .before .before .before .args .n))) refl (c .before .before .before .first-pairs .ensures))
+
+same-length-2 : tie.Need-same-length-2
+same-length-2 c = search needs
+
+returns-2 : tie.Need-returns-2
+returns-2 c = (put-as (log-shown (c .before .before .before .before .before .before .before .before .before .before .args .nodes) (c .before .before .before .before .before .before .before .before .before .before .args .bound) (rowsIn (c .before .before .before .before .before .before .before .before .before .before .args .rows .now) (c .before .before .before .before .before .before .before .before .before .before .args .n)) (c .before .before .before .before .before .before .first-pairs .ensures .all) (c .before .before .before .before .before .if1 .left)) (c .before .before .put-doubts .ensures .0), c .before .before .put-doubts .ensures .1)
+
+pub put-log-spec : {M : Type 1} → statement M
+put-log-spec =
+    tie.close
+    (tie.spec
+    first-pairs-requires
+    slice-aggregate-put-word
+    put-word-requires
+    same-length
+    returns
+    slice-aggregate-put-doubts
+    put-doubts-requires
+    same-length-2
+    returns-2)

@@ -1,0 +1,5 @@
+pub mod Words
+pub mod Answer
+pub mod Showing
+pub mod Rows
+pub mod Promise

@@ -1,0 +1,61 @@
+-- What "same" promises: every merge of the same logs that the clocks allow ends in the same state with the same history. Assumes nothing.
+use mathlib.Core.Path.{_≡_, refl}
+use mathlib.Core.Bool.{Bool, true, false, cond}
+use mathlib.Core.List.{List, [], _∷_}
+use Prim.Native.Nat.{ℕ}
+use native.Mathlib.Omega.{arith}
+use lib.Dec.{eqb, leb}
+use lib.ListN.{length}
+use borrow.Author.Tests.{eqb-true}
+use Rattle.rules.specs.Step.{fresh}
+use Rattle.laws.specs.Steps.{fresh-fits}
+use Rattle.verdict.specs.Verdict.{Same}
+use Rattle.verdict.specs.Clocks.{Logged, events, SameLogs, clocks, Timely}
+use Rattle.verdict.specs.Merging.{clock-verdict}
+use Rattle.text.specs.Line.{line}
+use Rattle.report.specs.Words as R
+use Rattle.logtext.specs.Log.{longestText, Row, readText}
+use Rattle.logtext.specs.Known.{few-nodes, good-nodes}
+use Rattle.doubts.specs.declared.Pair.{Pair}
+use Rattle.doubts.specs.Doubts.{doubts}
+use Rattle.doubts.specs.Nothing.{merged, no-doubt}
+use Rattle.warnings.specs.Words as W
+use Rattle.warnings.specs.Answer.{pairText, shown, doubtsText, logText, answer}
+
+-- ---- "same" is said nowhere else
+
+pub said-same : (count bound : ℕ) (rows : List Row) → logText count bound rows ≡ line R.same [] → doubts count bound rows ≡ []
+unfolding doubtsText shown line
+said-same count bound rows e = go (doubts count bound rows) e
+  where
+    go : (ps : List Pair) → doubtsText (pairText count bound rows) ps ≡ line R.same [] → ps ≡ []
+    go [] e = refl
+    go (p ∷ ps) e = absurd (let z : _≡_ {A = ℕ} 100 115 = cc in omega arith)
+
+-- A text for which "same" is printed was not refused, and nothing in it is in doubt.
+pub record Certain (text : List ℕ) : Type 0 where
+  pub good : readText text .refused ≡ 0
+  pub none : doubts (readText text .nodes) (readText text .bound) (readText text .rows) ≡ []
+
+pub certain : (text : List ℕ) → answer text ≡ line R.same [] → Certain text
+unfolding answer line
+certain text e = go (leb (length text) longestText) (eqb (readText text .refused) 0) refl e
+  where
+    go : (a b : Bool) → eqb (readText text .refused) 0 ≡ b
+        → cond a (cond b (logText (readText text .nodes) (readText text .bound) (readText text .rows)) (line W.refusedLine (readText text .refused ∷ []))) (line W.refusedLong []) ≡ line R.same []
+        → Certain text
+    go true true i u = record { good = eqb-true _ _ i; none = said-same (readText text .nodes) (readText text .bound) (readText text .rows) u }
+    go true false i u = absurd (let z : _≡_ {A = ℕ} 114 115 = cc in omega arith)
+    go false b i u = absurd (let z : _≡_ {A = ℕ} 114 115 = cc in omega arith)
+
+-- ---- the promise, for the bytes that a user holds
+
+pub promise : (text : List ℕ) → answer text ≡ line R.same []
+    → (fs : List Logged) → SameLogs (merged (readText text .rows)) fs → Timely (clocks (readText text .bound)) fs
+    → Same (fresh (readText text .nodes)) (events (merged (readText text .rows))) (events fs)
+unfolding fresh
+promise text e fs logs timely =
+    let c = certain text e in
+    clock-verdict (fresh (readText text .nodes)) (clocks (readText text .bound)) (merged (readText text .rows))
+    (fresh-fits (readText text .nodes) (good-nodes text (c .good)) (few-nodes text))
+    (no-doubt (readText text .nodes) (readText text .bound) (readText text .rows) (c .none)) fs logs timely

@@ -1,0 +1,140 @@
+// What the program `merges` prints for a merged log, as one text in a lent buffer.
+ghost use mathlib.Core.Path.{_≡_};
+ghost use Prim.Native.Nat.{_+_, _*_, _≤_, _<_};
+ghost use lib.ListN.{length, take};
+ghost use Rattle.text.specs.Put.{Put};
+ghost use Rattle.exchanges.specs.Rows.{rowsIn};
+ghost use Rattle.doubts.specs.Doubts.{doubts};
+ghost use Rattle.doubts.specs.Found.{mostPairs};
+ghost use Rattle.warnings.specs.Answer.{pairLine, outcome, pairText, shown, mostShown, logText, answer};
+ghost use Rattle.warnings.specs.Rows.{Known};
+ghost use Rattle.warnings.specs.Showing.{longest, Say};
+use doubts::Pair;
+
+// How many pairs are shown.
+const MOST_SHOWN: usize = 16;
+
+// Room for the longest text: 16 pairs of 384 bytes and a line of 5.
+pub const LONGEST_ANSWER: usize = 8192;
+
+// A pair in doubt: line, log, time, kind and node of both records.
+fn put_pair_line(buf: &mut [u8], at: usize, rows: &[u64], n: usize, pair: Pair) -> usize
+    requires { ⌜ (5 * n ≤ length (now rows)) × (pair .x < n) × (pair .y < n) × (at + 256 ≤ length (now buf)) ⌝ }
+    ensures { λ r. ⌜ Put (now (buf .entry)) at (pairLine (rowsIn (now (rows .entry)) n) pair) (now (buf .exit)) r × (r ≤ at + 256) ⌝ }
+{
+    let x = 5 * pair.x;
+    let y = 5 * pair.y;
+    let numbers = [
+        rows[x],
+        rows[x + 1],
+        rows[x + 2],
+        rows[x + 3],
+        rows[x + 4],
+        rows[y],
+        rows[y + 1],
+        rows[y + 2],
+        rows[y + 3],
+        rows[y + 4],
+    ];
+    text::put_line(buf, at, b"doubt", &numbers)
+}
+
+// What the exchange of a pair does that the clocks allow.
+fn put_outcome(
+    buf: &mut [u8],
+    at: usize,
+    rows: &[u64],
+    n: usize,
+    nodes: u8,
+    bound: u64,
+    pair: Pair,
+) -> usize
+    requires { ⌜ Known nodes (now rows) n × (pair .x < pair .y) × (pair .y < n) × (at + 128 ≤ length (now buf)) ⌝ }
+    ensures { λ r. ⌜ Put (now (buf .entry)) at (outcome nodes bound (rowsIn (now (rows .entry)) n) pair) (now (buf .exit)) r × (r ≤ at + 128) ⌝ }
+{
+    if exchanges::allowed(rows, n, bound, true, pair.x, pair.y) {
+        let parting = exchanges::parting(rows, n, nodes, true, pair.x, pair.y);
+        return report::put_parting(buf, at, parting);
+    }
+    if exchanges::allowed(rows, n, bound, false, pair.x, pair.y) {
+        let parting = exchanges::parting(rows, n, nodes, false, pair.x, pair.y);
+        return report::put_parting(buf, at, parting);
+    }
+    text::put_word(buf, at, b"open\n")
+}
+
+// A pair, and what is known of it.
+fn put_pair(
+    buf: &mut [u8],
+    at: usize,
+    rows: &[u64],
+    n: usize,
+    nodes: u8,
+    bound: u64,
+    pair: Pair,
+) -> usize
+    requires { ⌜ Known nodes (now rows) n × (pair .x < pair .y) × (pair .y < n) × (at + 384 ≤ length (now buf)) ⌝ }
+    ensures { λ r. ⌜ Put (now (buf .entry)) at (pairText nodes bound (rowsIn (now (rows .entry)) n) pair) (now (buf .exit)) r × (r ≤ at + 384) ⌝ }
+{
+    let next = put_pair_line(buf, at, rows, n, pair);
+    put_outcome(buf, next, rows, n, nodes, bound, pair)
+}
+
+// The pairs that were found, as many as are shown.
+fn put_doubts(
+    buf: &mut [u8],
+    rows: &[u64],
+    n: usize,
+    nodes: u8,
+    bound: u64,
+    found: &[usize],
+    count: usize,
+) -> usize
+    requires { ⌜ Known nodes (now rows) n × (longest ≤ length (now buf)) × Say (take mostPairs (doubts nodes bound (rowsIn (now rows) n))) (now found) count ⌝ }
+    ensures { λ r. ⌜ Put (now (buf .entry)) 0 (shown (pairText nodes bound (rowsIn (now (rows .entry)) n)) mostShown (take mostPairs (doubts nodes bound (rowsIn (now (rows .entry)) n))))
+        (now (buf .exit)) r × (r ≤ longest) ⌝ }
+{
+    let mut at: usize = 0;
+    let mut i: usize = 0;
+    while i < count {
+        if i == MOST_SHOWN {
+            return text::put_word(buf, at, b"more\n");
+        }
+        let pair = Pair {
+            x: found[2 * i],
+            y: found[2 * i + 1],
+        };
+        at = put_pair(buf, at, rows, n, nodes, bound, pair);
+        i += 1;
+    }
+    at
+}
+
+// The text for a log that is not refused.
+fn put_log(buf: &mut [u8], rows: &[u64], n: usize, nodes: u8, bound: u64) -> usize
+    requires { ⌜ Known nodes (now rows) n × (longest ≤ length (now buf)) ⌝ }
+    ensures { λ r. ⌜ Put (now (buf .entry)) 0 (logText nodes bound (rowsIn (now (rows .entry)) n)) (now (buf .exit)) r × (r ≤ longest) ⌝ }
+{
+    let mut found = [0usize; doubts::FOUND];
+    let count = doubts::first_pairs(rows, n, nodes, bound, &mut found);
+    if count == 0 {
+        return text::put_word(buf, 0, b"same\n");
+    }
+    put_doubts(buf, rows, n, nodes, bound, &found, count)
+}
+
+// Reads the text of a merged log and puts what the program prints at the front of the buffer. Returns how many bytes that is.
+pub fn answer(log: &[u8], buf: &mut [u8; LONGEST_ANSWER]) -> usize
+    ensures { λ r. ⌜ Put (now (buf .entry)) 0 (answer (now (log .entry))) (now (buf .exit)) r × (r ≤ length (now (buf .exit))) ⌝ }
+{
+    if logtext::LONGEST < log.len() {
+        return text::put_word(buf, 0, b"refused long\n");
+    }
+    let mut rows = [0u64; logtext::ROOM];
+    let read = logtext::read_log(log, &mut rows);
+    if read.refused != 0 {
+        let number = [read.refused as u64];
+        return text::put_line(buf, 0, b"refused line", &number);
+    }
+    put_log(buf, &rows, read.count, read.nodes, read.bound)
+}
