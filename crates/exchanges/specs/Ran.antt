@@ -35,6 +35,10 @@ module _ (count : ℕ) (es : List Event) (low : 1 ≤ count) (high : count ≤ 8
   pub list-history : All Small es → history (listOf count es) ≡ run step (fresh count) es .state .history
   list-history small = ap₂ (λ (n : ℕ) (xs : List Event). run step (fresh n) xs .state .history) (list-nodes count es low high few) (list-records count es low high few small)
 
+-- A run of the merge at hand accepted so many writes, and left this buffer.
+abbrev pub AtHand : ℕ → List ℕ → ℕ → List ℕ → ℕ → Type 0
+AtHand count l n after writes = Written (listOf count (table n (stepAt l true n n))) n after writes
+
 -- ---- the steps that were put down are those of the merges
 
 map-table : (n : ℕ) (f : ℕ → Row) → stepsOf (table n f) ≡ table n (λ i. f i .logged .event)
@@ -86,7 +90,7 @@ module _ (count : ℕ) (l : List ℕ) (n : ℕ) (low : 1 ≤ count) (high : coun
         (let z = ap length (sym (steps-moved l n up x y a b)) in let w = size (stepAt l up x y) in omega arith)
         (small-table (length (rowsIn l n)) (λ i. getD (rowsIn l n) (moved up x y i) noRow) (λ i. small-at (rowsIn l n) small (moved up x y i)))
 
-    pub parting-said : {mine theirs part part′ : List ℕ} {w v : ℕ} → Written (listOf count (table n (stepAt l true n n))) n mine w → Written (listOf count (table n (stepAt l up x y))) n theirs v
+    pub parting-said : {mine theirs part part′ : List ℕ} {w v : ℕ} → AtHand count l n mine w → Written (listOf count (table n (stepAt l up x y))) n theirs v
         → part ≡ drop n mine → part′ ≡ drop n theirs → {d : Parting} → d ≡ difference (entries part w) (entries part′ v) → d ≡ partingOf count (rowsIn l n) up x y
     parting-said {w = w} {v = v} p q e f g =
         g ∙ ap₂ difference (ap (λ (k : List ℕ). entries k w) e ∙ p .says ∙ history-here) (ap (λ (k : List ℕ). entries k v) f ∙ q .says ∙ history-moved)

@@ -15,10 +15,11 @@ ghost use Rattle.exchanges.specs.Rows.{noRow, rowIn, rowsIn, stepsOf};
 ghost use Rattle.exchanges.specs.Exchange.{moved, mayPass, allowed, partingOf};
 ghost use Rattle.exchanges.specs.Bytes.{flat, listOf, Small};
 ghost use Rattle.exchanges.specs.Filling.{stepAt};
+ghost use Rattle.exchanges.specs.Ran.{AtHand};
 use partings::Parting;
 
 // Room for the answers to 32,762 records, and for a full history.
-const LONGEST_OUT: usize = 36858;
+pub const LONGEST_OUT: usize = 36858;
 
 // What a run without writes returns.
 const NO_WRITES: u32 = 256;
@@ -106,14 +107,30 @@ fn run_moved(rows: &[u64], n: usize, nodes: u8, up: bool, x: usize, y: usize, ou
     runner::run(&list[..length], out) - NO_WRITES
 }
 
-// Where the histories of the merge at hand and of the exchanged one first differ. No record is moved by an exchange behind the last.
-pub fn parting(rows: &[u64], n: usize, nodes: u8, up: bool, x: usize, y: usize) -> Parting
-    requires { ⌜ (n ≤ 32762) × (1 ≤ nodes) × (nodes ≤ 8) × (5 * n ≤ length (now rows)) × (x < y) × (y < n) × All Small (stepsOf (rowsIn (now rows) n)) ⌝ }
+// Runs the merge at hand. Gives the number of writes, and leaves answers and history in the buffer. No record is moved by an exchange behind the last.
+pub fn run_at_hand(rows: &[u64], n: usize, nodes: u8, out: &mut [u8]) -> u32
+    requires { ⌜ (n ≤ 32762) × (1 ≤ nodes) × (nodes ≤ 8) × (5 * n ≤ length (now rows)) × (n + historyRoom ≤ length (now out)) ⌝ }
+    ensures { λ r. ⌜ AtHand nodes (now (rows .entry)) n (now (out .exit)) r ⌝ }
+{
+    run_moved(rows, n, nodes, true, n, n, out)
+}
+
+// Where the histories of the merge at hand, which was run, and of the exchanged one first differ.
+pub fn parting(
+    rows: &[u64],
+    n: usize,
+    nodes: u8,
+    up: bool,
+    x: usize,
+    y: usize,
+    mine: &[u8],
+    writes: u32,
+) -> Parting
+    requires { ⌜ (n ≤ 32762) × (1 ≤ nodes) × (nodes ≤ 8) × (5 * n ≤ length (now rows)) × (x < y) × (y < n) × All Small (stepsOf (rowsIn (now rows) n))
+        × AtHand nodes (now rows) n (now mine) writes ⌝ }
     ensures { λ r. ⌜ r ≡ partingOf nodes (rowsIn (now (rows .entry)) n) up x y ⌝ }
 {
-    let mut mine = [0u8; LONGEST_OUT];
     let mut theirs = [0u8; LONGEST_OUT];
-    let writes = run_moved(rows, n, nodes, true, n, n, &mut mine);
     let others = run_moved(rows, n, nodes, up, x, y, &mut theirs);
     partings::difference(&mine[n..], writes as usize, &theirs[n..], others as usize)
 }

@@ -4,6 +4,7 @@ ghost use Prim.Native.Nat.{_+_, _*_, _≤_, _<_};
 ghost use lib.ListN.{length, take};
 ghost use Rattle.text.specs.Put.{Put};
 ghost use Rattle.exchanges.specs.Rows.{rowsIn};
+ghost use Rattle.exchanges.specs.Ran.{AtHand};
 ghost use Rattle.doubts.specs.Doubts.{doubts};
 ghost use Rattle.doubts.specs.Found.{mostPairs};
 ghost use Rattle.warnings.specs.Answer.{pairLine, outcome, pairText, shown, mostShown, logText, answer};
@@ -48,16 +49,18 @@ fn put_outcome(
     nodes: u8,
     bound: u64,
     pair: Pair,
+    mine: &[u8],
+    writes: u32,
 ) -> usize
-    requires { ⌜ Known nodes (now rows) n × (pair .x < pair .y) × (pair .y < n) × (at + 128 ≤ length (now buf)) ⌝ }
+    requires { ⌜ Known nodes (now rows) n × AtHand nodes (now rows) n (now mine) writes × (pair .x < pair .y) × (pair .y < n) × (at + 128 ≤ length (now buf)) ⌝ }
     ensures { λ r. ⌜ Put (now (buf .entry)) at (outcome nodes bound (rowsIn (now (rows .entry)) n) pair) (now (buf .exit)) r × (r ≤ at + 128) ⌝ }
 {
     if exchanges::allowed(rows, n, bound, true, pair.x, pair.y) {
-        let parting = exchanges::parting(rows, n, nodes, true, pair.x, pair.y);
+        let parting = exchanges::parting(rows, n, nodes, true, pair.x, pair.y, mine, writes);
         return report::put_parting(buf, at, parting);
     }
     if exchanges::allowed(rows, n, bound, false, pair.x, pair.y) {
-        let parting = exchanges::parting(rows, n, nodes, false, pair.x, pair.y);
+        let parting = exchanges::parting(rows, n, nodes, false, pair.x, pair.y, mine, writes);
         return report::put_parting(buf, at, parting);
     }
     text::put_word(buf, at, b"open\n")
@@ -72,12 +75,14 @@ fn put_pair(
     nodes: u8,
     bound: u64,
     pair: Pair,
+    mine: &[u8],
+    writes: u32,
 ) -> usize
-    requires { ⌜ Known nodes (now rows) n × (pair .x < pair .y) × (pair .y < n) × (at + 384 ≤ length (now buf)) ⌝ }
+    requires { ⌜ Known nodes (now rows) n × AtHand nodes (now rows) n (now mine) writes × (pair .x < pair .y) × (pair .y < n) × (at + 384 ≤ length (now buf)) ⌝ }
     ensures { λ r. ⌜ Put (now (buf .entry)) at (pairText nodes bound (rowsIn (now (rows .entry)) n) pair) (now (buf .exit)) r × (r ≤ at + 384) ⌝ }
 {
     let next = put_pair_line(buf, at, rows, n, pair);
-    put_outcome(buf, next, rows, n, nodes, bound, pair)
+    put_outcome(buf, next, rows, n, nodes, bound, pair, mine, writes)
 }
 
 // The pairs that were found, as many as are shown.
@@ -89,8 +94,10 @@ fn put_doubts(
     bound: u64,
     found: &[usize],
     count: usize,
+    mine: &[u8],
+    writes: u32,
 ) -> usize
-    requires { ⌜ Known nodes (now rows) n × (longest ≤ length (now buf)) × Say (take mostPairs (doubts nodes bound (rowsIn (now rows) n))) (now found) count ⌝ }
+    requires { ⌜ Known nodes (now rows) n × AtHand nodes (now rows) n (now mine) writes × (longest ≤ length (now buf)) × Say (take mostPairs (doubts nodes bound (rowsIn (now rows) n))) (now found) count ⌝ }
     ensures { λ r. ⌜ Put (now (buf .entry)) 0 (shown (pairText nodes bound (rowsIn (now (rows .entry)) n)) mostShown (take mostPairs (doubts nodes bound (rowsIn (now (rows .entry)) n))))
         (now (buf .exit)) r × (r ≤ longest) ⌝ }
 {
@@ -104,7 +111,7 @@ fn put_doubts(
             x: found[2 * i],
             y: found[2 * i + 1],
         };
-        at = put_pair(buf, at, rows, n, nodes, bound, pair);
+        at = put_pair(buf, at, rows, n, nodes, bound, pair, mine, writes);
         i += 1;
     }
     at
@@ -120,7 +127,9 @@ fn put_log(buf: &mut [u8], rows: &[u64], n: usize, nodes: u8, bound: u64) -> usi
     if count == 0 {
         return text::put_word(buf, 0, b"same\n");
     }
-    put_doubts(buf, rows, n, nodes, bound, &found, count)
+    let mut mine = [0u8; exchanges::LONGEST_OUT];
+    let writes = exchanges::run_at_hand(rows, n, nodes, &mut mine);
+    put_doubts(buf, rows, n, nodes, bound, &found, count, &mine, writes)
 }
 
 // Reads the text of a merged log and puts what the program prints at the front of the buffer. Returns how many bytes that is.

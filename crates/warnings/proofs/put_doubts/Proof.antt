@@ -15,10 +15,10 @@ use Rattle.warnings.proofs.put_doubts.Statement.{statement}
 use Rattle.warnings.proofs.put_doubts.Tie as tie
 
 abbrev Inv-loop : tie.InvT-loop
-Inv-loop buf₀ rows n nodes bound found count at₀ i₀ t11 buf at i = Showing (pairText nodes bound (rowsIn rows n)) (take mostPairs (doubts nodes bound (rowsIn rows n))) buf₀ buf at i
+Inv-loop buf₀ rows n nodes bound found count mine writes at₀ i₀ t11 buf at i = Showing (pairText nodes bound (rowsIn rows n)) (take mostPairs (doubts nodes bound (rowsIn rows n))) buf₀ buf at i
 
 abbrev μ-loop : tie.MeasureT-loop
-μ-loop buf₀ rows n nodes bound found count at₀ i₀ t11 buf at i = count - i
+μ-loop buf₀ rows n nodes bound found count mine writes at₀ i₀ t11 buf at i = count - i
 
 loop-holds : tie.Need-loop-holds Inv-loop μ-loop
 loop-holds c = showing-starts _
@@ -27,39 +27,39 @@ slice-aggregate-put-word : tie.Need-slice-aggregate-put-word Inv-loop μ-loop
 slice-aggregate-put-word c = search needs
 
 put-word-requires : tie.Need-put-word-requires Inv-loop μ-loop
-put-word-requires c κs = record { enough = let s = c .before .before .before .before .loop .inv .short in let f = c .before .before .before .before .loop .inv .few in let z = put-length (c .before .before .before .before .loop .inv .put) in let r = c .before .before .before .before .before .before .before .before .pre .1 in omega arith }
+put-word-requires c κs = record { enough = let s = c .before .before .before .before .loop .inv .short in let f = c .before .before .before .before .loop .inv .few in let z = put-length (c .before .before .before .before .loop .inv .put) in let r = c .before .before .before .before .before .before .before .before .before .pre .2 in omega arith }
 
 same-length : tie.Need-same-length Inv-loop μ-loop
 unfolding line spaced
-same-length c = put-length (showing-full (c .before .before .before .before .before .before .before .loop .inv) (let a = c .before .before .before .before .before .before .before .before .before .before .before .pre .2 .all in let k = c .before .before .before .before .before .before .loop-test .taken in omega arith) (c .before .before .before .before .before .if1 .taken) (c .before .before .put-word .ensures))
+same-length c = put-length (showing-full (c .before .before .before .before .before .before .before .loop .inv) (let a = c .before .before .before .before .before .before .before .before .before .before .before .before .pre .3 .all in let k = c .before .before .before .before .before .before .loop-test .taken in omega arith) (c .before .before .before .before .before .if1 .taken) (c .before .before .put-word .ensures))
 
 returns : tie.Need-returns Inv-loop μ-loop
 unfolding line spaced
-returns c = ((showing-full (c .before .before .before .before .before .before .before .loop .inv) (let a = c .before .before .before .before .before .before .before .before .before .before .before .pre .2 .all in let k = c .before .before .before .before .before .before .loop-test .taken in omega arith) (c .before .before .before .before .before .if1 .taken) (c .before .before .put-word .ensures)), let s = c .before .before .before .before .before .before .before .loop .inv .short in let f = c .before .before .before .before .before .before .before .loop .inv .few in let z = c .before .before .put-word .ensures .place in omega arith)
+returns c = ((showing-full (c .before .before .before .before .before .before .before .loop .inv) (let a = c .before .before .before .before .before .before .before .before .before .before .before .before .pre .3 .all in let k = c .before .before .before .before .before .before .loop-test .taken in omega arith) (c .before .before .before .before .before .if1 .taken) (c .before .before .put-word .ensures)), let s = c .before .before .before .before .before .before .before .loop .inv .short in let f = c .before .before .before .before .before .before .before .loop .inv .few in let z = c .before .before .put-word .ensures .place in omega arith)
 
-mul-t17 : tie.Need-mul-t17 Inv-loop μ-loop
-mul-t17 c = let r = c .before .before .before .before .before .before .pre .2 .room in let k = c .before .loop-test .taken in let f = c .before .before .loop .inv .few in omega arith
+mul-t19 : tie.Need-mul-t19 Inv-loop μ-loop
+mul-t19 c = search needs
 
-mul-t18 : tie.Need-mul-t18 Inv-loop μ-loop
-mul-t18 c = let r = c .before .before .before .before .before .before .pre .2 .room in let k = c .before .loop-test .taken in let f = c .before .before .loop .inv .few in omega arith
+mul-t20 : tie.Need-mul-t20 Inv-loop μ-loop
+mul-t20 c = search needs
 
-shared-slice-read-t20 : tie.Need-shared-slice-read-t20 Inv-loop μ-loop
-shared-slice-read-t20 c = let r = c .before .before .before .before .before .before .before .pre .2 .room in let k = c .before .before .loop-test .taken in let f = c .before .before .before .loop .inv .few in omega arith
-
-mul-t21 : tie.Need-mul-t21 Inv-loop μ-loop
-mul-t21 c = let r = c .before .before .before .before .before .before .before .pre .2 .room in let k = c .before .before .loop-test .taken in let f = c .before .before .before .loop .inv .few in omega arith
-
-add-t22 : tie.Need-add-t22 Inv-loop μ-loop
-add-t22 c = let r = c .before .before .before .before .before .before .before .pre .2 .room in let k = c .before .before .loop-test .taken in let f = c .before .before .before .loop .inv .few in omega arith
+shared-slice-read-t22 : tie.Need-shared-slice-read-t22 Inv-loop μ-loop
+shared-slice-read-t22 c = search needs
 
 mul-t23 : tie.Need-mul-t23 Inv-loop μ-loop
-mul-t23 c = let r = c .before .before .before .before .before .before .before .pre .2 .room in let k = c .before .before .loop-test .taken in let f = c .before .before .before .loop .inv .few in omega arith
+mul-t23 c = let r = c .before .before .before .before .before .before .before .before .pre .3 .room in let k = c .before .before .loop-test .taken in let f = c .before .before .before .loop .inv .few in omega arith
 
-shared-slice-read-t25 : tie.Need-shared-slice-read-t25 Inv-loop μ-loop
-shared-slice-read-t25 c = let r = c .before .before .before .before .before .before .before .before .pre .2 .room in let k = c .before .before .before .loop-test .taken in let f = c .before .before .before .before .loop .inv .few in omega arith
+add-t24 : tie.Need-add-t24 Inv-loop μ-loop
+add-t24 c = search needs
+
+mul-t25 : tie.Need-mul-t25 Inv-loop μ-loop
+mul-t25 c = search needs
+
+shared-slice-read-t27 : tie.Need-shared-slice-read-t27 Inv-loop μ-loop
+shared-slice-read-t27 c = search needs
 
 put-pair-requires : tie.Need-put-pair-requires Inv-loop μ-loop
-put-pair-requires c κs = let s = c .before .before .before .before .before .loop .inv .short in let f = c .before .before .before .before .before .loop .inv .few in let z = put-length (c .before .before .before .before .before .loop .inv .put) in let r = c .before .before .before .before .before .before .before .before .before .pre .1 in let p = rw (c .before .before .before .before .before .before .before .before .before .pre .2 .are (c .before .before .before .before .before .loop .i) (c .before .before .before .before .loop-test .taken)) at (doubts-inside (c .before .before .before .before .before .before .before .before .before .args .nodes) (c .before .before .before .before .before .before .before .before .before .args .bound) (c .before .before .before .before .before .before .before .before .before .args .rows .now) (c .before .before .before .before .before .before .before .before .before .args .n) (c .before .before .before .before .before .loop .i) (let a = c .before .before .before .before .before .before .before .before .before .pre .2 .all in let k = c .before .before .before .before .loop-test .taken in omega arith)) in (c .before .before .before .before .before .before .before .before .before .pre .0, p .0, p .1, omega arith)
+put-pair-requires c κs = let s = c .before .before .before .before .before .loop .inv .short in let f = c .before .before .before .before .before .loop .inv .few in let z = put-length (c .before .before .before .before .before .loop .inv .put) in let r = c .before .before .before .before .before .before .before .before .before .before .pre .2 in let p = rw (c .before .before .before .before .before .before .before .before .before .before .pre .3 .are (c .before .before .before .before .before .loop .i) (c .before .before .before .before .loop-test .taken)) at (doubts-inside (c .before .before .before .before .before .before .before .before .before .before .args .nodes) (c .before .before .before .before .before .before .before .before .before .before .args .bound) (c .before .before .before .before .before .before .before .before .before .before .args .rows .now) (c .before .before .before .before .before .before .before .before .before .before .args .n) (c .before .before .before .before .before .loop .i) (let a = c .before .before .before .before .before .before .before .before .before .before .pre .3 .all in let k = c .before .before .before .before .loop-test .taken in omega arith)) in (c .before .before .before .before .before .before .before .before .before .before .pre .0, c .before .before .before .before .before .before .before .before .before .before .pre .1, p .0, p .1, omega arith)
 
 add-i : tie.Need-add-i Inv-loop μ-loop
 add-i c = let f = c .before .before .before .before .before .before .before .before .loop .inv .few in omega arith
@@ -68,13 +68,13 @@ loop-less : tie.Need-loop-less Inv-loop μ-loop
 loop-less c = search needs
 
 loop-again : tie.Need-loop-again Inv-loop μ-loop
-loop-again c = showing-more (c .before .before .before .before .before .before .before .before .loop .inv) (let a = c .before .before .before .before .before .before .before .before .before .before .before .before .pre .2 .all in let k = c .before .before .before .before .before .before .before .loop-test .taken in omega arith) (let f = c .before .before .before .before .before .before .before .before .loop .inv .few in let d = c .before .before .before .before .before .before .if1 .left in omega arith) (c .before .before .before .before .before .before .before .before .before .before .before .before .pre .2 .are (c .before .before .before .before .before .before .before .before .loop .i) (c .before .before .before .before .before .before .before .loop-test .taken)) (c .before .before .put-pair .ensures .0) (c .before .before .put-pair .ensures .1)
+loop-again c = showing-more (c .before .before .before .before .before .before .before .before .loop .inv) (let a = c .before .before .before .before .before .before .before .before .before .before .before .before .before .pre .3 .all in let k = c .before .before .before .before .before .before .before .loop-test .taken in omega arith) (let f = c .before .before .before .before .before .before .before .before .loop .inv .few in let d = c .before .before .before .before .before .before .if1 .left in omega arith) (c .before .before .before .before .before .before .before .before .before .before .before .before .before .pre .3 .are (c .before .before .before .before .before .before .before .before .loop .i) (c .before .before .before .before .before .before .before .loop-test .taken)) (c .before .before .put-pair .ensures .0) (c .before .before .put-pair .ensures .1)
 
 same-length-2 : tie.Need-same-length-2 Inv-loop μ-loop
 same-length-2 c = put-length (c .before .loop .inv .put)
 
 returns-2 : tie.Need-returns-2 Inv-loop μ-loop
-returns-2 c = (showing-ends (c .before .loop .inv) (let a = c .before .before .before .before .before .pre .2 .all in let k = c .loop-test .left in omega arith), let s = c .before .loop .inv .short in let f = c .before .loop .inv .few in omega arith)
+returns-2 c = (showing-ends (c .before .loop .inv) (let a = c .before .before .before .before .before .before .pre .3 .all in let k = c .loop-test .left in omega arith), let s = c .before .loop .inv .short in let f = c .before .loop .inv .few in omega arith)
 
 pub put-doubts-spec : {M : Type 1} → statement M
 put-doubts-spec =
@@ -87,13 +87,13 @@ put-doubts-spec =
     put-word-requires
     same-length
     returns
-    mul-t17
-    mul-t18
-    shared-slice-read-t20
-    mul-t21
-    add-t22
+    mul-t19
+    mul-t20
+    shared-slice-read-t22
     mul-t23
-    shared-slice-read-t25
+    add-t24
+    mul-t25
+    shared-slice-read-t27
     put-pair-requires
     add-i
     loop-less

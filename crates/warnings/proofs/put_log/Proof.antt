@@ -27,17 +27,26 @@ returns : tie.Need-returns
 unfolding line spaced
 returns c = (put-as (log-same (c .before .before .before .before .before .before .before .before .before .before .args .nodes) (c .before .before .before .before .before .before .before .before .before .before .args .bound) (rowsIn (c .before .before .before .before .before .before .before .before .before .before .args .rows .now) (c .before .before .before .before .before .before .before .before .before .before .args .n)) (c .before .before .before .before .before .before .first-pairs .ensures .all) (c .before .before .before .before .before .if1 .taken)) (c .before .before .put-word .ensures), omega arith)
 
+slice-aggregate-run-at-hand : tie.Need-slice-aggregate-run-at-hand
+slice-aggregate-run-at-hand c = search needs
+
+run-at-hand-requires : tie.Need-run-at-hand-requires
+run-at-hand-requires c κs = search needs
+
 slice-aggregate-put-doubts : tie.Need-slice-aggregate-put-doubts
-slice-aggregate-put-doubts c = sym (put-length (c .before .before .before .first-pairs .ensures .put))
+slice-aggregate-put-doubts c = sym (put-length (c .before .before .before .before .before .before .first-pairs .ensures .put))
+
+slice-aggregate-put-doubts-2 : tie.Need-slice-aggregate-put-doubts-2
+slice-aggregate-put-doubts-2 c = search needs
 
 put-doubts-requires : tie.Need-put-doubts-requires
-put-doubts-requires c κs = (c .before .before .before .before .before .before .before .pre .0, c .before .before .before .before .before .before .before .pre .1, says (doubts (c .before .before .before .before .before .before .before .args .nodes) (c .before .before .before .before .before .before .before .args .bound) (rowsIn (c .before .before .before .before .before .before .before .args .rows .now) (c .before .before .before .before .before .before .before .args .n))) refl (c .before .before .before .first-pairs .ensures))
+put-doubts-requires c κs = (c .before .before .before .before .before .before .before .before .before .before .before .pre .0, c .before .before .before .before .run-at-hand .ensures, c .before .before .before .before .before .before .before .before .before .before .before .pre .1, says (doubts (c .before .before .before .before .before .before .before .before .before .before .before .args .nodes) (c .before .before .before .before .before .before .before .before .before .before .before .args .bound) (rowsIn (c .before .before .before .before .before .before .before .before .before .before .before .args .rows .now) (c .before .before .before .before .before .before .before .before .before .before .before .args .n))) refl (c .before .before .before .before .before .before .before .first-pairs .ensures))
 
 same-length-2 : tie.Need-same-length-2
 same-length-2 c = search needs
 
 returns-2 : tie.Need-returns-2
-returns-2 c = (put-as (log-shown (c .before .before .before .before .before .before .before .before .before .before .args .nodes) (c .before .before .before .before .before .before .before .before .before .before .args .bound) (rowsIn (c .before .before .before .before .before .before .before .before .before .before .args .rows .now) (c .before .before .before .before .before .before .before .before .before .before .args .n)) (c .before .before .before .before .before .before .first-pairs .ensures .all) (c .before .before .before .before .before .if1 .left)) (c .before .before .put-doubts .ensures .0), c .before .before .put-doubts .ensures .1)
+returns-2 c = (put-as (log-shown (c .before .before .before .before .before .before .before .before .before .before .before .before .before .before .args .nodes) (c .before .before .before .before .before .before .before .before .before .before .before .before .before .before .args .bound) (rowsIn (c .before .before .before .before .before .before .before .before .before .before .before .before .before .before .args .rows .now) (c .before .before .before .before .before .before .before .before .before .before .before .before .before .before .args .n)) (c .before .before .before .before .before .before .before .before .before .before .first-pairs .ensures .all) (c .before .before .before .before .before .before .before .before .before .if1 .left)) (c .before .before .put-doubts .ensures .0), c .before .before .put-doubts .ensures .1)
 
 pub put-log-spec : {M : Type 1} → statement M
 put-log-spec =
@@ -48,7 +57,10 @@ put-log-spec =
     put-word-requires
     same-length
     returns
+    slice-aggregate-run-at-hand
+    run-at-hand-requires
     slice-aggregate-put-doubts
+    slice-aggregate-put-doubts-2
     put-doubts-requires
     same-length-2
     returns-2)

@@ -21,7 +21,7 @@ same-length : tie.Need-same-length
 same-length c = search needs
 
 returns : tie.Need-returns
-returns c = (put-as (outcome-up (c .before .before .before .before .before .before .before .before .before .args .nodes) (c .before .before .before .before .before .before .before .before .before .args .bound) (rowsIn (c .before .before .before .before .before .before .before .before .before .args .rows .now) (c .before .before .before .before .before .before .before .before .before .args .n)) (c .before .before .before .before .before .before .before .before .before .args .pair) (c .before .before .before .before .before .before .allowed .ensures) (c .before .before .before .before .before .if1 .taken) (c .before .before .before .before .parting .ensures)) (c .before .before .put-parting .ensures .0), c .before .before .put-parting .ensures .1)
+returns c = (put-as (outcome-up (c .before .before .before .before .before .before .before .before .before .before .args .nodes) (c .before .before .before .before .before .before .before .before .before .before .args .bound) (rowsIn (c .before .before .before .before .before .before .before .before .before .before .args .rows .now) (c .before .before .before .before .before .before .before .before .before .before .args .n)) (c .before .before .before .before .before .before .before .before .before .before .args .pair) (c .before .before .before .before .before .before .allowed .ensures) (c .before .before .before .before .before .if1 .taken) (c .before .before .before .before .parting .ensures)) (c .before .before .put-parting .ensures .0), c .before .before .put-parting .ensures .1)
 
 allowed-requires-2 : tie.Need-allowed-requires-2
 allowed-requires-2 c κs = search needs
@@ -36,7 +36,7 @@ same-length-2 : tie.Need-same-length-2
 same-length-2 c = search needs
 
 returns-2 : tie.Need-returns-2
-returns-2 c = (put-as (outcome-down (c .before .before .before .before .before .before .before .before .before .before .before .args .nodes) (c .before .before .before .before .before .before .before .before .before .before .before .args .bound) (rowsIn (c .before .before .before .before .before .before .before .before .before .before .before .args .rows .now) (c .before .before .before .before .before .before .before .before .before .before .before .args .n)) (c .before .before .before .before .before .before .before .before .before .before .before .args .pair) (c .before .before .before .before .before .before .before .before .allowed .ensures) (c .before .before .before .before .before .before .before .if1 .left) (c .before .before .before .before .before .before .allowed2 .ensures) (c .before .before .before .before .before .if2 .taken) (c .before .before .before .before .parting2 .ensures)) (c .before .before .put-parting2 .ensures .0), c .before .before .put-parting2 .ensures .1)
+returns-2 c = (put-as (outcome-down (c .before .before .before .before .before .before .before .before .before .before .before .before .args .nodes) (c .before .before .before .before .before .before .before .before .before .before .before .before .args .bound) (rowsIn (c .before .before .before .before .before .before .before .before .before .before .before .before .args .rows .now) (c .before .before .before .before .before .before .before .before .before .before .before .before .args .n)) (c .before .before .before .before .before .before .before .before .before .before .before .before .args .pair) (c .before .before .before .before .before .before .before .before .allowed .ensures) (c .before .before .before .before .before .before .before .if1 .left) (c .before .before .before .before .before .before .allowed2 .ensures) (c .before .before .before .before .before .if2 .taken) (c .before .before .before .before .parting2 .ensures)) (c .before .before .put-parting2 .ensures .0), c .before .before .put-parting2 .ensures .1)
 
 slice-aggregate-put-word : tie.Need-slice-aggregate-put-word
 slice-aggregate-put-word c = search needs
@@ -49,7 +49,7 @@ same-length-3 c = search needs
 
 returns-3 : tie.Need-returns-3
 unfolding line spaced
-returns-3 c = (put-as (outcome-open (c .before .before .before .before .before .before .before .before .before .before .before .args .nodes) (c .before .before .before .before .before .before .before .before .before .before .before .args .bound) (rowsIn (c .before .before .before .before .before .before .before .before .before .before .before .args .rows .now) (c .before .before .before .before .before .before .before .before .before .before .before .args .n)) (c .before .before .before .before .before .before .before .before .before .before .before .args .pair) (c .before .before .before .before .before .before .before .before .allowed .ensures) (c .before .before .before .before .before .before .before .if1 .left) (c .before .before .before .before .before .before .allowed2 .ensures) (c .before .before .before .before .before .if2 .left)) (c .before .before .put-word .ensures), omega arith)
+returns-3 c = (put-as (outcome-open (c .before .before .before .before .before .before .before .before .before .before .before .before .args .nodes) (c .before .before .before .before .before .before .before .before .before .before .before .before .args .bound) (rowsIn (c .before .before .before .before .before .before .before .before .before .before .before .before .args .rows .now) (c .before .before .before .before .before .before .before .before .before .before .before .before .args .n)) (c .before .before .before .before .before .before .before .before .before .before .before .before .args .pair) (c .before .before .before .before .before .before .before .before .allowed .ensures) (c .before .before .before .before .before .before .before .if1 .left) (c .before .before .before .before .before .before .allowed2 .ensures) (c .before .before .before .before .before .if2 .left)) (c .before .before .put-word .ensures), omega arith)
 
 pub put-outcome-spec : {M : Type 1} → statement M
 put-outcome-spec =
