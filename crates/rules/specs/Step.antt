@@ -1,10 +1,10 @@
 -- The step: which kinds and nodes exist, and the order of all answers.
-use mathlib.Core.Bool.{Bool, true, false, _&&_}
+use mathlib.Core.Bool.{Bool, true, false}
 use mathlib.Core.Option.{Option, none, some}
-use mathlib.Core.List.{List, [], _∷_}
+use mathlib.Core.List.{[], _∷_}
 use Prim.Native.Nat.{ℕ}
 use lib.ListN.{getD, replicate}
-use lib.Dec.{leb, eqb}
+use lib.Dec.{eqb}
 use Rattle.rules.specs.Codes.{outOfRange, unknownKind, unknownNode}
 use Rattle.rules.specs.State.{State, blank}
 use Rattle.rules.specs.Range.{within, inRange}
