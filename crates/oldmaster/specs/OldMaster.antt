@@ -6,14 +6,14 @@ use Prim.Native.Nat.{ℕ, _≤_}
 use native.Mathlib.Omega.{arith}
 use lib.ListN.{getD, replicate}
 use lib.Seq.{append-snoc}
-use Rattle.rules.specs.State.{Mastership, Request, Write, State, blank}
-use Rattle.rules.specs.Queues.{first}
+use Rattle.rules.specs.State.{Mastership, Request, Write, blank}
+use Rattle.rules.specs.Queues.{push, first}
 use Rattle.rules.specs.Rules.{noRequest}
 use Rattle.rules.specs.Step.{Event, step, fresh}
-use Rattle.rules.specs.Run.{run}
 use Rattle.laws.specs.Lists.{all-getD}
 use Rattle.laws.specs.KeepsSwitch.{all-replicate}
 use Rattle.laws.specs.Steps.{step-count}
+use Rattle.laws.specs.Runs.{run-state}
 use Rattle.oldmaster.specs.KeptOut.{stateAfter, serviceAfter, historyAfter, Named, Accepted, OldMastersKeptOut}
 use Rattle.oldmaster.specs.Growing.{nothing-before, FirstPart, all, part, first-part, same-end, one-by-one, all-member}
 use Rattle.oldmaster.specs.Change.{HistoryChange, kept, Accepts, accepts, Change}
@@ -21,10 +21,6 @@ use Rattle.oldmaster.specs.Invariant.{by, Lawful, accepted-term, accepte
 use Rattle.oldmaster.specs.Steps.{step-changes}
 
 -- ---- moments
-
-run-more : (s : State) (es : List Event) (e : Event) → run step s (es ++ (e ∷ [])) .state ≡ step e (run step s es .state) .state
-run-more s [] e = refl
-run-more s (x ∷ es) e = run-more (step x s .state) es e
 
 module _ (count : ℕ) where
   named-now : (es : List Event) → Named count es (by (serviceAfter count es))
@@ -48,10 +44,12 @@ module _ (count : ℕ) where
         go (part rest p) = inl (record { before = k .before; behind = rest; splits = p; master = k .master; term = k .term })
 
     changed : Change e (stateAfter count es) (stateAfter count (es ++ (e ∷ [])))
-    changed = rw (run-more (fresh count) es e) (step-changes e (stateAfter count es))
+    unfolding push
+    changed = rw (run-state step (fresh count) es e) (step-changes e (stateAfter count es))
 
     lawful-more : Lawful (Named count es) (stateAfter count es) → Lawful (Named count (es ++ (e ∷ []))) (stateAfter count (es ++ (e ∷ [])))
-    lawful-more h = lawful-step (rw (run-more (fresh count) es e) (step-count e (stateAfter count es))) (named-now es)
+    unfolding push
+    lawful-more h = lawful-step (rw (run-state step (fresh count) es e) (step-count e (stateAfter count es))) (named-now es)
         (record { before = named-later; now = named-now (es ++ (e ∷ [])); only = named-earlier }) h changed
 
   lawful-fresh : Lawful (Named count []) (fresh count)

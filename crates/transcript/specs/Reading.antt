@@ -10,11 +10,11 @@ use Rattle.rules.specs.Limits.{historyLength}
 use Rattle.rules.specs.State.{Write}
 use Rattle.laws.specs.RangeTest.{range-sound}
 use Rattle.laws.specs.Steps.{run-keeps, fresh-fits}
+use Rattle.laws.specs.Runs.{run-length}
 use Rattle.rules.specs.Step.{step, fresh}
 use Rattle.lists.specs.EventList.{nodeCount, recordCount, records, byteAt, historyBytes}
 use Rattle.lists.specs.Good.{Good, records-length}
 use Rattle.runner.specs.Ran.{wholeRun}
-use Rattle.runner.specs.Running.{run-length}
 use Rattle.text.specs.Lines.{writeLine, writesLine}
 use Rattle.transcript.specs.Transcript.{recordLineAt, writeLineAt, runText}
 use Rattle.transcript.specs.Bytes.{entryLineAt, bytesText}
