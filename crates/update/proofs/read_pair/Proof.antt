@@ -1,9 +1,5 @@
 -- `read_pair` meets its contract. Assumes nothing.
 use mathlib.Core.Path.{sym, ap, ap₂, _∙_}
-use mathlib.Core.Path.{sym, ap, ap₂, _∙_}
-use mathlib.Core.Path.{sym, ap, ap₂, _∙_}
-use Prim.Native.Nat.{ℕ, _-_}
-use Prim.Native.Nat.{ℕ, _-_}
 use Prim.Native.Nat.{ℕ, _-_}
 use native.Mathlib.Omega.{arith}
 use lib.ListN.{length}
@@ -11,11 +7,8 @@ use borrow.Author.Needs.{needs}
 use Rattle.wire.specs.Messages.{whole}
 use Rattle.wire.specs.Found.{found-field, no-field}
 use Rattle.wire.specs.Walking.{Walking, walking-starts, walking-ends, walking-faults, walking-on}
-use Rattle.update.specs.Raw.{pairOf}
-use Rattle.update.specs.Seeing.{last-scalar}
-use Rattle.wire.specs.Messages.{whole}
 use Rattle.update.specs.Raw.{seeTwo, pairOf}
-use Rattle.wire.specs.Messages.{whole}
+use Rattle.update.specs.Seeing.{last-scalar}
 use Rattle.update.proofs.read_pair.Statement.{statement}
 use Rattle.update.proofs.read_pair.Tie as tie
 
