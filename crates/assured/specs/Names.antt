@@ -10,7 +10,7 @@ use Rattle.rules.specs.Step.{Event}
 use Rattle.laws.specs.InRange.{All}
 use Rattle.merges.specs.Independent.{independent}
 use Rattle.lists.specs.EventList.{nodeCount, recordCount, recordAt}
-use Rattle.verdict.specs.Verdict.{Pulled, taken, blocked, missing, behind, met, pull}
+use Rattle.verdict.specs.Verdict.{Pulled, taken, blocked, missing, met, pull}
 use Rattle.verdict.specs.Steps.{same-eq, independent-self}
 use Rattle.comparing.specs.declared.Finding.{Finding}
 use Rattle.places.specs.Places.{from, found, seek}

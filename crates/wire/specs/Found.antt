@@ -116,7 +116,7 @@ module _ (message : List ℕ) (at byte : ℕ) (is : byte ≡ firstByte message a
   unfolding content
   seen-bytes n low high same = seen 2 n (omega arith) low high same
 
-module _ (message : List ℕ) (at n size : ℕ) (inside : at ≤ length message) where
+module _ (message : List ℕ) (at size : ℕ) (inside : at ≤ length message) where
   module _ (fits : size ≤ length message - at) where
     long : size ≤ length (drop at message)
     long = let n = length-drop at message in omega arith
@@ -128,11 +128,11 @@ module _ (message : List ℕ) (at n size : ℕ) (inside : at ≤ length message)
     place : placeOf message (drop (at + size) message) ≡ at + size
     place = place-drop message (at + size) (omega arith)
 
-    pub fixed-field : record { code = 0; kind = 1; number = n; value = 0; start = 0; next = at + size } ≡ foundField message (asFixed size n (drop at message))
-    fixed-field = ap (λ (k : ℕ). standing (fixed n) k) (sym place) ∙ ap (λ (t : Taken (List ℕ)). foundField message (after t (λ skipped rest. taken (fixed n) rest))) (sym part-stands)
+    pub fixed-field : (n : ℕ) → record { code = 0; kind = 1; number = n; value = 0; start = 0; next = at + size } ≡ foundField message (asFixed size n (drop at message))
+    fixed-field n = ap (λ (k : ℕ). standing (fixed n) k) (sym place) ∙ ap (λ (t : Taken (List ℕ)). foundField message (after t (λ skipped rest. taken (fixed n) rest))) (sym part-stands)
 
-    pub part-field : record { code = 0; kind = 2; number = n; value = 0; start = at; next = at + size } ≡ foundField message (partAs n size (drop at message))
-    part-field =
+    pub part-field : (n : ℕ) → record { code = 0; kind = 2; number = n; value = 0; start = at; next = at + size } ≡ foundField message (partAs n size (drop at message))
+    part-field n =
         let held = length-take-le size (drop at message) long in
         ap₂ (λ (s k : ℕ). record { code = 0; kind = 2; number = n; value = 0; start = s; next = k }) (omega (arith, place)) (sym place)
         ∙ ap (λ (t : Taken (List ℕ)). foundField message (after t (λ held rest. taken (bytes n held) rest))) (sym part-stands)
