@@ -4,14 +4,12 @@ use mathlib.Core.Logic.{_≢_, _⊎_, inl, inr}
 use mathlib.Core.List.{List, [], _∷_, _++_, append-nil, append-assoc, List·Memᴰ, List·Memᴰ·not-nil}
 use Prim.Native.Nat.{ℕ, _≤_}
 use native.Mathlib.Omega.{arith}
-use lib.ListN.{getD, replicate}
 use lib.Seq.{append-snoc}
 use Rattle.rules.specs.State.{Mastership, Request, Write, blank}
 use Rattle.rules.specs.Queues.{push, first}
 use Rattle.rules.specs.Rules.{noRequest}
 use Rattle.rules.specs.Step.{Event, step, fresh}
-use Rattle.laws.specs.Lists.{all-getD}
-use Rattle.laws.specs.KeepsSwitch.{all-replicate}
+use Rattle.laws.specs.Lists.{replicate-at}
 use Rattle.laws.specs.Steps.{step-count}
 use Rattle.laws.specs.Runs.{run-state}
 use Rattle.oldmaster.specs.KeptOut.{stateAfter, serviceAfter, historyAfter, Named, Accepted, OldMastersKeptOut}
@@ -57,16 +55,13 @@ module _ (count : ℕ) where
   lawful-fresh = record {
     once = λ x y p q a. absurd (a (nobody x p .0));
     bound = λ x p. let z = nobody x p .1 in omega arith;
-    events = λ i m k. absurd (List·Memᴰ·not-nil (rw (same {A = List Mastership} count [] i) at k));
-    rows = λ i. rw (same count blank i, same {A = ℕ} count 0 i, same {A = List Request} count [] i) (record { learned = λ z. absurd (omega arith); climbs = omega arith; requests = tt; id = omega arith });
+    events = λ i m k. absurd (List·Memᴰ·not-nil (rw (replicate-at {A = List Mastership} count [] i) at k));
+    rows = λ i. rw (replicate-at count blank i, replicate-at {A = ℕ} count 0 i, replicate-at {A = List Request} count [] i) (record { learned = λ z. absurd (omega arith); climbs = omega arith; requests = tt; id = omega arith });
     history = record { node = tt; named = tt; below = tt; rising = tt };
   }
     where
       nobody : (x : Write) → Named count [] x → (x .node ≡ 0) × (x .term ≡ 0)
       nobody x k = let e = nothing-before (k .before) (k .behind) (k .splits) in (sym (rw e at (k .master)), sym (rw e at (k .term)))
-
-      same : {A : Type 0} (n : ℕ) (x : A) (i : ℕ) → getD (replicate n x) i x ≡ x
-      same n x i = all-getD (λ y. y ≡ x) (replicate n x) i x refl (all-replicate (λ y. y ≡ x) n x refl)
 
   lawful : (es : List Event) → Lawful (Named count es) (stateAfter count es)
   lawful = one-by-one (λ es. Lawful (Named count es) (stateAfter count es)) lawful-fresh lawful-more
