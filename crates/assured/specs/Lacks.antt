@@ -19,7 +19,7 @@ use Rattle.comparing.specs.Compared.{comparison, compared}
 use Rattle.comparing.specs.Refusing.{both-good}
 use Rattle.comparing.specs.Left.{nowhere}
 use Rattle.assured.specs.Assured.{times, OnlyNames}
-use Rattle.assured.specs.Meaning.{comparable, all-places}
+use Rattle.assured.specs.Meaning.{verdict-of, comparable, all-places}
 use Rattle.assured.specs.Names.{never, lost, absent, alike, own}
 
 -- ---- how often
@@ -116,7 +116,7 @@ module _ (count : ℕ) (here there : ℕ → Event) (place : ℕ) where
 
   -- Findings with other verdicts are none of these two.
   neither : (ps qs : List ℕ) (f : Finding) → f .verdict < 258 → Lacks ps qs f
-  neither ps qs f h = ((λ e. absurd (let z = ap (λ (f : Finding). f .verdict) e in omega arith)), λ e. absurd (let z = ap (λ (f : Finding). f .verdict) e in omega arith))
+  neither ps qs f h = ((λ e. absurd (let z = verdict-of e in omega arith)), λ e. absurd (let z = verdict-of e in omega arith))
 
   lacks-second : (p : ℕ) (ps qs : List ℕ) → times (here p) (map there qs) ≡ 0 → Lacks (p ∷ ps) qs (onlyFirst p)
   lacks-second p ps qs n = (
@@ -124,12 +124,12 @@ module _ (count : ℕ) (here there : ℕ → Event) (place : ℕ) where
         let same : p ≡ place = (let z = ap (λ (f : Finding). f .p) e in omega arith) in
         let one = times-head (here p) (map here ps) in
         subst (λ (x : ℕ). times (here x) (map there qs) < times (here x) (map here (p ∷ ps))) same (omega arith),
-    λ e. absurd (let z = ap (λ (f : Finding). f .verdict) e in omega arith),
+    λ e. absurd (let z = verdict-of e in omega arith),
   )
 
   lacks-first : (s : ℕ) (ps qs : List ℕ) → times (there s) (map here ps) ≡ 0 → 1 ≤ times (there s) (map there qs) → Lacks ps qs (onlySecond s)
   lacks-first s ps qs n h = (
-    λ e. absurd (let z = ap (λ (f : Finding). f .verdict) e in omega arith),
+    λ e. absurd (let z = verdict-of e in omega arith),
     λ e.
         let same : s ≡ place = (let z = ap (λ (f : Finding). f .s) e in omega arith) in
         subst (λ (x : ℕ). times (there x) (map here ps) < times (there x) (map there qs)) same (omega arith),
@@ -172,9 +172,9 @@ of-records these those e h = rw (all-places (recordAt these) (recordCount these)
 pub only-names : OnlyNames
 only-names first second place = (
   λ e. of-records second first (recordAt first place)
-      (lacks (nodeCount first) (recordAt first) (recordAt second) place (from 0 (recordCount first)) (from 0 (recordCount second)) .0 (as-comparison (let z = ap (λ (f : Finding). f .verdict) e in omega arith) ∙ e)),
+      (lacks (nodeCount first) (recordAt first) (recordAt second) place (from 0 (recordCount first)) (from 0 (recordCount second)) .0 (as-comparison (let z = verdict-of e in omega arith) ∙ e)),
   λ e. of-records first second (recordAt second place)
-      (lacks (nodeCount first) (recordAt first) (recordAt second) place (from 0 (recordCount first)) (from 0 (recordCount second)) .1 (as-comparison (let z = ap (λ (f : Finding). f .verdict) e in omega arith) ∙ e)),
+      (lacks (nodeCount first) (recordAt first) (recordAt second) place (from 0 (recordCount first)) (from 0 (recordCount second)) .1 (as-comparison (let z = verdict-of e in omega arith) ∙ e)),
 )
   where
     as-comparison : 256 ≤ compared first second .verdict → comparison first second ≡ compared first second

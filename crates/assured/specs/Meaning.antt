@@ -46,7 +46,7 @@ module _ {A B : Type 0} (f : A → B) (may wanted : B → Bool) where
 
 -- ---- only one finding is `same`
 
-verdict-of : {f : Finding} → f ≡ same → f .verdict ≡ 256
+pub verdict-of : {f g : Finding} → f ≡ g → f .verdict ≡ g .verdict
 verdict-of e = ap (λ (f : Finding). f .verdict) e
 
 module _ (count : ℕ) (here there : ℕ → Event) where
@@ -109,7 +109,7 @@ comparable first second e = go (ℕ-discrete (refusal first) 0) (ℕ-discrete (r
   where
     -- no refusal is a verdict
     never : (code : ℕ) → code ≤ 28 → compared first second ≡ refused code → ⊥
-    never code h i = let z = ap (λ (f : Finding). f .verdict) i in omega arith
+    never code h i = let z = verdict-of i in omega arith
 
     go : Dec (refusal first ≡ 0) → Dec (refusal second ≡ 0) → Dec (nodeCount first ≡ nodeCount second) → Comparable first second
     go (no a) b c = absurd (never (refusal first) (let s = small-refusal first in omega arith) (first-refused first second a))

@@ -10,7 +10,7 @@ use Rattle.rules.specs.Step.{Event}
 use Rattle.laws.specs.InRange.{All}
 use Rattle.merges.specs.Independent.{independent}
 use Rattle.lists.specs.EventList.{nodeCount, recordCount, recordAt}
-use Rattle.verdict.specs.Verdict.{Pulled, taken, blocked, missing, behind, met, pull}
+use Rattle.verdict.specs.Verdict.{Pulled, taken, blocked, missing, met, pull}
 use Rattle.verdict.specs.Steps.{same-eq, independent-self}
 use Rattle.comparing.specs.declared.Finding.{Finding}
 use Rattle.places.specs.Places.{from, found, seek}
@@ -18,7 +18,7 @@ use Rattle.comparing.specs.Compare.{order, free, equal, obstacle, looked, compa
 use Rattle.comparing.specs.Refusing.{both-good}
 use Rattle.comparing.specs.Left.{nowhere}
 use Rattle.assured.specs.Assured.{OrderNames}
-use Rattle.assured.specs.Meaning.{comparable}
+use Rattle.assured.specs.Meaning.{verdict-of, comparable}
 
 -- ---- places in order
 
@@ -148,30 +148,30 @@ module _ (count : ℕ) (here there : ℕ → Event) where
     crossed-in : (p : ℕ) (ps qs : List ℕ) → All (λ y. p < y) ps → Rising qs → (s : ℕ) → pull (free count here there p) (equal count here there p) qs ≡ blocked s
         → (o : Option ℕ) → seek (equal count here there p) qs ≡ o → (o′ : Option ℕ) → seek (λ x. equal count here there x s) ps ≡ o′
         → obstacle count here there p s o o′ ≡ order a b a′ b′ → Crosses a b a′ b′
-    crossed-in p ps qs h u s e none i o′ j k = let z = ap (λ (f : Finding). f .verdict) k in absurd (omega arith)
-    crossed-in p ps qs h u s e (some r) i none j k = let z = ap (λ (f : Finding). f .verdict) k in absurd (omega arith)
+    crossed-in p ps qs h u s e none i o′ j k = let z = verdict-of k in absurd (omega arith)
+    crossed-in p ps qs h u s e (some r) i none j k = let z = verdict-of k in absurd (omega arith)
     crossed-in p ps qs h u s e (some r) i (some f) j k =
         let x : p ≡ a = (let z = ap (λ (f : Finding). f .p) k in omega arith) in
         let y : f ≡ b = (let z = ap (λ (f : Finding). f .q) k in omega arith) in
         let z : r ≡ a′ = (let z = ap (λ (f : Finding). f .r) k in omega arith) in
         let w : s ≡ b′ = (let z = ap (λ (f : Finding). f .s) k in omega arith) in
-        subst (λ (n : ℕ). Crosses a b a′ n) w (subst (λ (n : ℕ). Crosses a b n s) z (subst (λ (n : ℕ). Crosses a n r s) y (subst (λ (n : ℕ). Crosses n f r s) x (crossing p ps qs h u s e r i f j))))
+        rw (← x, ← y, ← z, ← w) (crossing p ps qs h u s e r i f j)
 
     names : (ps qs : List ℕ) → Rising ps → Rising qs → compare count here there ps qs ≡ order a b a′ b′ → Crosses a b a′ b′
     unfolding compare
-    names [] [] h u e = let z = ap (λ (f : Finding). f .verdict) e in absurd (omega arith)
-    names [] (q ∷ qs) h u e = let z = ap (λ (f : Finding). f .verdict) e in absurd (omega arith)
+    names [] [] h u e = let z = verdict-of e in absurd (omega arith)
+    names [] (q ∷ qs) h u e = let z = verdict-of e in absurd (omega arith)
     names (p ∷ ps) qs h u e = go (pull (free count here there p) (equal count here there p) qs) refl (λ rest. names ps rest (h .1)) e
       where
         go : (o : Pulled ℕ) → pull (free count here there p) (equal count here there p) qs ≡ o → ((rest : List ℕ) → Rising rest → compare count here there ps rest ≡ order a b a′ b′ → Crosses a b a′ b′)
             → looked count here there (compare count here there ps) p ps qs o ≡ order a b a′ b′ → Crosses a b a′ b′
         go (taken rest) i f k = f rest (left-rising (free count here there p) (equal count here there p) qs rest u i) k
         go (blocked s) i f k = crossed-in p ps qs (h .0) u s i (seek (equal count here there p) qs) refl (seek (λ x. equal count here there x s) ps) refl k
-        go missing i f k = let z = ap (λ (f : Finding). f .verdict) k in absurd (omega arith)
+        go missing i f k = let z = verdict-of k in absurd (omega arith)
 
 pub order-names : OrderNames
 order-names first second a b a′ b′ e =
-    let c = comparable first second (let z = ap (λ (f : Finding). f .verdict) e in omega arith) in
+    let c = comparable first second (let z = verdict-of e in omega arith) in
     let i = sym (both-good first second (c .one) (c .other) (c .nodes)) ∙ e in
     let x = names (nodeCount first) (recordAt first) (recordAt second) a b a′ b′ (from 0 (recordCount first)) (from 0 (recordCount second))
     (from-rising 0 (recordCount first)) (from-rising 0 (recordCount second)) i in

@@ -9,6 +9,7 @@ use Rattle.rules.specs.Part.{Result}
 use Rattle.rules.specs.Step.{Event, step, fresh}
 use Rattle.rules.specs.Run.{run}
 use Rattle.laws.specs.Steps.{fresh-fits}
+use Rattle.laws.specs.Runs.{run-length}
 use Rattle.merges.specs.Demand.{swaps, Exchanged}
 use Rattle.merges.specs.Exchange.{exchange}
 use Rattle.lists.specs.EventList.{nodeCount, recordCount, records, refusal, historyBytes}
@@ -16,7 +17,6 @@ use Rattle.lists.specs.Good.{good, records-length}
 use Rattle.lists.specs.Written.{history-length}
 use Rattle.runner.specs.Ran.{historyRoom, wholeRun, Ran, ran}
 use Rattle.runner.specs.Refusing.{ran-all}
-use Rattle.runner.specs.Running.{run-length}
 use Rattle.audit.specs.SameRun.{Remerged, historySize, Audited}
 use Rattle.audit.specs.Exchanges.{swaps-length}
 use Rattle.audit.specs.Buffers.{first-piece, second-piece, what-stays}

@@ -1,6 +1,6 @@
 -- A state of structs is in range exactly if what it holds is in range and nothing else stands in it. Assumes nothing.
 use mathlib.Core.Path.{_≡_, sym, ap, _∙_}
-use mathlib.Core.Bool.{Bool, true, false, _&&_}
+use mathlib.Core.Bool.{true}
 use mathlib.Core.Logic.{_↔_}
 use lib.Dec.{T}
 use Rattle.rules.specs.Range.{inRange}

@@ -12,7 +12,7 @@ use Rattle.rules.specs.Range.{all, inRange}
 use Rattle.laws.specs.InRange.{All, CoreFits}
 use Rattle.laws.specs.RangeTest.{range-sound}
 use Rattle.laws.specs.Tests.{_&_, as-is, is-yes, is-le, is-all}
-use Rattle.laws.specs.Lists.{all-with}
+use Rattle.laws.specs.Lists.{all-each}
 use Rattle.seqs.specs.Padded.{padded}
 use Rattle.seqs.specs.Tables.{table}
 use Rattle.parts.specs.Hold.{asIs, packMastership, noMastership, packMessage, packRequest, noRequest, packStatus, packResponse, noResponse}
@@ -100,7 +100,7 @@ module _ (n : ℕ) (running : Bool) (c : S.Core) (few : n ≤ mostNodes) (k : Co
       let m = getD (c .learned) i S.blank in
       let h = events-at n running c few k i in
       (as-is (tidyPlaces queueLength tidyMastership blankMastership (padded noMastership packMastership queueLength q) (length q)) & as-is (tidyMastership (packMastership m))) .from (
-        places-pass noMastership packMastership tidyMastership blankMastership no-mastership queueLength q (h .short) (all-with (λ x a b. mastership-passes x (event-short n few x a)) q (h .items) (h .items)),
+        places-pass noMastership packMastership tidyMastership blankMastership no-mastership queueLength q (h .short) (all-each (λ x a. mastership-passes x (event-short n few x a)) q (h .items)),
         mastership-passes m (learned-short n few m (learned-at n running c few k i)),
       )
 

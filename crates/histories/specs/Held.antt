@@ -2,20 +2,17 @@
 -- it. Assumes nothing.
 use mathlib.Core.Path.{_≡_}
 use mathlib.Core.List.{List}
-use Prim.Native.Nat.{ℕ, _+_, _*_, _-_}
+use Prim.Native.Nat.{ℕ, _-_}
 use lib.ListN.{drop}
 use Rattle.rules.specs.State.{Write}
 use Rattle.seqs.specs.Tables.{table}
-use Rattle.lists.specs.EventList.{nodeCount, recordCount, records, refusal, byteAt}
+use Rattle.lists.specs.EventList.{nodeCount, recordCount, records, refusal}
 use Rattle.runner.specs.Ran.{noWrites, Ran, ran}
+use Rattle.transcript.specs.Entries.{entryAt}
 use Rattle.transcript.specs.Transcript.{runText, transcript}
 use Rattle.oldmaster.specs.KeptOut.{KeptOut}
 
 -- ---- bytes
-
--- The write that the four bytes of entry i say: node, 0, and the term with the least byte first.
-abbrev pub writeAt : List ℕ → ℕ → Write
-writeAt bytes i = record { node = byteAt bytes (4 * i); term = byteAt bytes (4 * i + 2) + 256 * byteAt bytes (4 * i + 3) }
 
 -- How many writes the number returned says: none for a refusal.
 abbrev pub writesReturned : Ran → ℕ
@@ -27,7 +24,7 @@ historyPart list r = drop (recordCount list) (r .out)
 
 -- The writes that a run of the list has left in the buffer.
 abbrev pub writesHeld : List ℕ → Ran → List Write
-writesHeld list r = table (writesReturned r) (writeAt (historyPart list r))
+writesHeld list r = table (writesReturned r) (entryAt (historyPart list r))
 
 -- Of any list of bytes and any buffer.
 abbrev pub BytesKeptOut : Type 0

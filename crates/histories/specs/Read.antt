@@ -2,44 +2,33 @@
 use mathlib.Core.Path.{_≡_, refl, sym, ap, ap₂, _∙_}
 use mathlib.Core.Bool.{Bool, true, false, cond}
 use mathlib.Core.List.{List, [], _∷_, _++_, append-assoc, List·Memᴰ·not-nil}
-use Prim.Native.Nat.{ℕ, suc, _+_, _*_, _-_, _<_}
+use Prim.Native.Nat.{ℕ, _+_, _-_, _<_}
 use native.Mathlib.Omega.{arith}
 use lib.ListN.{length, drop}
-use lib.Seq.{drop-at, getD-append-add}
+use lib.Seq.{drop-at}
 use lib.Dec.{eqb, leb}
 use borrow.Author.Tests.{eq-eqb}
 use Rattle.rules.specs.Codes.{bufferShort}
 use Rattle.rules.specs.State.{Write}
 use Rattle.rules.specs.Step.{Event}
 use Rattle.laws.specs.Tests.{is-eq}
-use Rattle.seqs.specs.Tables.{table, table-ext}
-use Rattle.lists.specs.EventList.{nodeCount, recordCount, records, refusal, need, lengthFits, trailerFits, nodesFit, sumFits, byteAt, entryBytes, historyBytes}
+use Rattle.seqs.specs.Tables.{table, table-of}
+use Rattle.lists.specs.EventList.{nodeCount, recordCount, records, refusal, need, lengthFits, trailerFits, nodesFit, sumFits, historyBytes}
 use Rattle.lists.specs.Good.{good}
 use Rattle.runner.specs.Ran.{historyRoom, noWrites, runRefusal, wholeRun, completed, ran}
+use Rattle.transcript.specs.Entries.{entryAt, noWrite, entry-read}
 use Rattle.transcript.specs.Transcript.{transcript}
 use Rattle.transcript.specs.Reading.{all-answered}
 use Rattle.oldmaster.specs.KeptOut.{KeptOut}
 use Rattle.oldmaster.specs.Growing.{nothing-before}
 use Rattle.oldmaster.specs.OldMaster.{kept-out}
 use Rattle.histories.specs.Numbers.{same-writes}
-use Rattle.histories.specs.Held.{writeAt, writesReturned, historyPart, writesHeld, BytesKeptOut, PrintedKeptOut}
+use Rattle.histories.specs.Held.{writesReturned, historyPart, writesHeld, BytesKeptOut, PrintedKeptOut}
 
 -- ---- the entries
 
-next-write : (w : Write) (l : List ℕ) (i : ℕ) → writeAt (entryBytes w ++ l) (suc i) ≡ writeAt l i
-next-write w l i =
-    let at : (j k : ℕ) → j ≡ 4 + k → byteAt (entryBytes w ++ l) j ≡ byteAt l k = λ j k e. rw e (getD-append-add (entryBytes w) l k 0) in
-    rw (at (4 * suc i) (4 * i) (omega arith), at (4 * suc i + 2) (4 * i + 2) (omega arith), at (4 * suc i + 3) (4 * i + 3) (omega arith))
-
-first-write : (w : Write) (l : List ℕ) → writeAt (entryBytes w ++ l) 0 ≡ w
-first-write w l = let write : ℕ → Write = λ t. record { node = w .node; term = t } in ap write (omega arith)
-
-writes-read : (ws : List Write) (l : List ℕ) → table (length ws) (writeAt (historyBytes ws ++ l)) ≡ ws
-unfolding historyBytes
-writes-read [] l = refl
-writes-read (w ∷ ws) l =
-    ap₂ (λ (x : Write) (xs : List Write). x ∷ xs) (first-write w (historyBytes ws ++ l))
-    (table-ext (length ws) (writeAt (historyBytes ws ++ l)) _ (next-write w (historyBytes ws ++ l)) ∙ writes-read ws l)
+writes-read : (ws : List Write) (l : List ℕ) → table (length ws) (entryAt (historyBytes ws ++ l)) ≡ ws
+writes-read ws l = sym (table-of (length ws) (entryAt (historyBytes ws ++ l)) ws noWrite refl (λ i h. sym (entry-read ws l i h)))
 
 -- ---- a refused run has written nothing
 
@@ -81,7 +70,7 @@ held list out accepted =
     let rest = drop (length (t .answer ++ b)) out in
     let count : writesReturned r ≡ length (t .state .history) = omega arith in
     let part : historyPart list r ≡ b ++ rest = ap (drop (recordCount list)) (append-assoc (t .answer) b rest) ∙ drop-at (t .answer) (b ++ rest) (recordCount list) (all-answered list (good list accepted)) in
-    ap₂ (λ (n : ℕ) (l : List ℕ). table n (writeAt l)) count part ∙ writes-read (t .state .history) rest
+    ap₂ (λ (n : ℕ) (l : List ℕ). table n (entryAt l)) count part ∙ writes-read (t .state .history) rest
 
 -- ---- the statements
 

@@ -4,8 +4,7 @@ use mathlib.Core.Bool.{Bool, not, _&&_, _||_, and-true, or-assoc, or-false}
 use lib.Dec.{eqb}
 use Rattle.rules.specs.Queues.{has}
 use Rattle.rules.specs.Step.{Event}
-use Rattle.merges.specs.Independent.{serviceKinds, learnKinds, sendKinds, receiveKinds, switchKinds, nodeKinds, lines, listed}
-use Rattle.independence.specs.Asks.{messageKinds, streamKinds, quietKinds}
+use Rattle.merges.specs.Independent.{serviceKinds, learnKinds, sendKinds, receiveKinds, switchKinds, streamKinds, quietKinds, messageKinds, nodeKinds, lines, listed}
 
 module _ (e f : Event) where
   abbrev differ : Bool

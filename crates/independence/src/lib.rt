@@ -3,7 +3,7 @@ ghost use mathlib.Core.Path.{_≡_};
 ghost use mathlib.Core.List.{[], _∷_};
 ghost use Rattle.rules.specs.Queues.{has};
 ghost use Rattle.merges.specs.Independent as L;
-ghost use Rattle.independence.specs.Asks.{event, messageKinds, streamKinds, quietKinds};
+ghost use Rattle.independence.specs.Asks.{event};
 
 // ---- the groups of kinds that the list speaks of
 
@@ -39,7 +39,7 @@ fn is_receive(kind: u8) -> bool
 }
 
 fn is_message(kind: u8) -> bool
-    ensures { λ r. ⌜ r ≡ has kind messageKinds ⌝ }
+    ensures { λ r. ⌜ r ≡ has kind L.messageKinds ⌝ }
 {
     is_send(kind) | is_receive(kind)
 }
@@ -52,14 +52,14 @@ fn is_node(kind: u8) -> bool
 
 // The steps of the switch on one stream that tell no other.
 fn is_quiet(kind: u8) -> bool
-    ensures { λ r. ⌜ r ≡ has kind quietKinds ⌝ }
+    ensures { λ r. ⌜ r ≡ has kind L.quietKinds ⌝ }
 {
     one_of(kind, 8, 11)
 }
 
 // The steps of the switch on one stream.
 fn is_stream(kind: u8) -> bool
-    ensures { λ r. ⌜ r ≡ has kind streamKinds ⌝ }
+    ensures { λ r. ⌜ r ≡ has kind L.streamKinds ⌝ }
 {
     (kind == 8) | (kind == 9) | (kind == 10) | (kind == 11)
 }

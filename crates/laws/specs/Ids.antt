@@ -12,7 +12,7 @@ use Rattle.rules.specs.State.{Mastership}
 use Rattle.rules.specs.Queues.{has, before}
 use Rattle.rules.specs.Ids.{electionId, termOf, named, placeOf, idFor}
 use Rattle.laws.specs.InRange.{Within, MastershipFits}
-use Rattle.laws.specs.Lists.{all-with, before-below, pigeonhole}
+use Rattle.laws.specs.Lists.{all-each, before-below, pigeonhole}
 
 -- ---- the rule and its inverse
 
@@ -37,8 +37,8 @@ id-within count t i few k below =
 pub fewer-backups : (count : ℕ) (m : Mastership) → MastershipFits count m → length (m .backups) < count
 fewer-backups count m k =
     pigeonhole count (m .master ∷ m .backups)
-    (k .master, all-with (λ b h h′. h .node) (m .backups) (k .backups) (k .backups))
-    (all-with (λ b h h′. h .other) (m .backups) (k .backups) (k .backups), k .distinct)
+    (k .master, all-each (λ b h. h .node) (m .backups) (k .backups))
+    (all-each (λ b h. h .other) (m .backups) (k .backups), k .distinct)
 
 pub place-below : (count n : ℕ) (m : Mastership) → MastershipFits count m → T (named n m) → placeOf n m < count
 unfolding named placeOf

@@ -10,7 +10,7 @@ use lib.Dec.{T}
 use Rattle.rules.specs.Limits.{historyLength}
 use Rattle.rules.specs.State.{Write, Desk, Wire, Core, State, blank}
 use Rattle.rules.specs.Range.{within}
-use Rattle.rules.specs.Parts.{withCore, withWire, Inbox, Sent, Received, Telling, Serving, Power, servicePart, learnPart, sendPart, receivePart, onDevice, tellPart, servePart, powerPart, part, service}
+use Rattle.rules.specs.Parts.{withCore, withWire, Inbox, Sent, Received, Telling, Serving, Power, servicePart, learnPart, sendPart, receivePart, onDevice, tellPart, servePart, powerPart, part}
 use Rattle.rules.specs.Rules.{connectRule, shutdownRule, startupRule, Kind, classOf, rule, join, leave, learns, sendUpdate, receiveUpdate, sendWrite, receiveWrite, connect, close, handleUpdate, handleWrite, shutdown, startup}
 use Rattle.rules.specs.Step.{called, act}
 use Rattle.laws.specs.InRange.{All, Within, QueueFits, MastershipFits, LearnedFits, unlearned, DeskFits, WireFits, WriteFits, CoreFits, InRange}

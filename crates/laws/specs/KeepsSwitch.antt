@@ -4,7 +4,7 @@ use mathlib.Core.Bool.{Bool, true, false, not, cond, _||_, true≢false}
 use mathlib.Core.List.{List, [], _∷_, map}
 use Prim.Native.Nat.{ℕ, zero, suc, _+_, _≤_}
 use native.Mathlib.Omega.{arith}
-use lib.ListN.{length, getD, replicate, length-replicate}
+use lib.ListN.{length, replicate, length-replicate}
 use lib.Dec.{T, ltb}
 use Rattle.rules.specs.Limits.{topTerm, historyLength}
 use Rattle.rules.specs.State.{Request, Response, Status, ok, permissionDenied, Wire}
@@ -14,7 +14,7 @@ use Rattle.rules.specs.Rules.{isWrite, noRequest, accepts, writeAnswer, handleW
 use Rattle.laws.specs.InRange.{All, DistinctIds, Within, QueueFits, RequestFits, ResponseFits, WriteFits, WireFits}
 use Rattle.laws.specs.Tests.{_&_, as-is, is-yes, is-lt}
 use Rattle.laws.specs.RangeTest.{no-stream}
-use Rattle.laws.specs.Lists.{queue-rest, queue-first, queue-push}
+use Rattle.laws.specs.Lists.{all-replicate, replicate-at, queue-rest, queue-first, queue-push}
 use Rattle.laws.specs.Decide.{Passes}
 
 -- ---- 11 Handle write
@@ -75,10 +75,6 @@ noWire count last = record {
   last = last;
 }
 
-pub all-replicate : {A : Type 0} (P : A → Type 0) (n : ℕ) (x : A) → P x → All P (replicate n x)
-all-replicate P zero x p = tt
-all-replicate P (suc n) x p = (p, all-replicate P n x p)
-
 pub no-wire-fits : (count : ℕ) (running : Bool) (last : ℕ) → last ≤ topTerm → WireFits count running (noWire count last)
 no-wire-fits count running last u = record {
   opens-size = length-replicate count false;
@@ -87,17 +83,12 @@ no-wire-fits count running last u = record {
   responses-size = length-replicate count [];
   ids-size = length-replicate count 0;
   terms-size = length-replicate count 0;
-  streams = λ i. rw (same count false i, same {A = ℕ} count 0 i, same {A = List Request} count [] i, same {A = List Response} count [] i) no-stream;
+  streams = λ i. rw (replicate-at count false i, replicate-at {A = ℕ} count 0 i, replicate-at {A = List Request} count [] i, replicate-at {A = List Response} count [] i) no-stream;
   distinct = no-ids count;
   stopped = λ e. all-replicate (λ o. o ≡ false) count false refl;
   last = u;
 }
   where
-    same : {A : Type 0} (n : ℕ) (x : A) (i : ℕ) → getD (replicate n x) i x ≡ x
-    same zero x i = refl
-    same (suc n) x zero = refl
-    same (suc n) x (suc i) = same n x i
-
     no-ids : (n : ℕ) → DistinctIds (replicate n 0)
     no-ids zero = tt
     no-ids (suc n) = ((λ z. absurd (z refl)), no-ids n)

@@ -14,3 +14,5 @@ pub mod KeepsSwitch
 pub mod Keeps
 pub mod Answers
 pub mod Steps
+pub mod Runs
+pub mod Kinds

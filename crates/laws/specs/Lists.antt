@@ -6,7 +6,7 @@ use mathlib.Core.List.{List, [], _∷_, _++_}
 use Prim.Native.Nat.{ℕ, zero, suc, _≤_, _<_}
 use native.Mathlib.Omega.{arith}
 use native.Mathlib.Decide.{ℕ-discrete}
-use lib.ListN.{length, getD, set, length-append}
+use lib.ListN.{length, getD, set, replicate, length-append}
 use lib.Dec.{T, eqb}
 use borrow.Author.Tests.{eq-eqb, ne-eqb}
 use Rattle.rules.specs.Limits.{queueLength}
@@ -20,6 +20,9 @@ pub all-with : {A : Type 0} {P Q R : A → Type 0} → ((x : A) → P x → Q x 
 all-with f [] h k = tt
 all-with f (x ∷ l) h k = (f x (h .0) (k .0), all-with f l (h .1) (k .1))
 
+pub all-each : {A : Type 0} {P Q : A → Type 0} → ((x : A) → P x → Q x) → (l : List A) → All P l → All Q l
+all-each f l h = all-with (λ x a b. f x a) l h h
+
 module _ {A : Type 0} (P : A → Type 0) where
   pub all-append : (l m : List A) → All P l → All P m → All P (l ++ m)
   all-append [] m h k = k
@@ -28,6 +31,10 @@ module _ {A : Type 0} (P : A → Type 0) where
   pub all-push : (x : A) (l : List A) → P x → All P l → All P (push x l)
   unfolding push
   all-push x l p h = all-append l (x ∷ []) h (p, tt)
+
+  pub all-replicate : (n : ℕ) (x : A) → P x → All P (replicate n x)
+  all-replicate zero x p = tt
+  all-replicate (suc n) x p = (p, all-replicate n x p)
 
   pub all-set : (l : List A) (i : ℕ) (x : A) → P x → All P l → All P (set l i x)
   all-set [] i x p h = tt
@@ -46,6 +53,12 @@ module _ {A : Type 0} (P : A → Type 0) where
   at-set (y ∷ l) zero (suc i) x d p h = h
   at-set (y ∷ l) (suc j) zero x d p h = h
   at-set (y ∷ l) (suc j) (suc i) x d p h = at-set l j i x d p h
+
+-- One element, repeated, and the same where the list has ended.
+pub replicate-at : {A : Type 0} (n : ℕ) (x : A) (i : ℕ) → getD (replicate n x) i x ≡ x
+replicate-at zero x i = refl
+replicate-at (suc n) x zero = refl
+replicate-at (suc n) x (suc i) = replicate-at n x i
 
 -- ---- queues
 

@@ -16,8 +16,8 @@ use Rattle.rules.specs.Step.{Event, step, fresh}
 use Rattle.rules.specs.Run.{run}
 use Rattle.laws.specs.InRange.{LearnedFits, unlearned, masterless, QueueFits, MastershipFits}
 use Rattle.laws.specs.RangeTest.{range-sound, range-complete}
-use Rattle.laws.specs.Lists.{queue-none}
-use Rattle.laws.specs.KeepsSwitch.{all-replicate, no-wire-fits}
+use Rattle.laws.specs.Lists.{all-replicate, queue-none}
+use Rattle.laws.specs.KeepsSwitch.{no-wire-fits}
 use Rattle.laws.specs.Keeps.{after-fits}
 use Rattle.laws.specs.Answered.{after, sees}
 use Rattle.laws.specs.Answers.{step-is}

@@ -25,8 +25,18 @@ receiveKinds = 5 ∷ 7 ∷ []
 abbrev pub switchKinds : List ℕ
 switchKinds = 8 ∷ 9 ∷ 10 ∷ 11 ∷ 12 ∷ 13 ∷ []
 
+-- The steps of the switch on one stream, and those of them that tell no other stream.
+abbrev pub streamKinds : List ℕ
+streamKinds = 8 ∷ 9 ∷ 10 ∷ 11 ∷ []
+
+abbrev pub quietKinds : List ℕ
+quietKinds = 8 ∷ 11 ∷ []
+
+abbrev pub messageKinds : List ℕ
+messageKinds = sendKinds ++ receiveKinds
+
 abbrev pub nodeKinds : List ℕ
-nodeKinds = learnKinds ++ sendKinds ++ receiveKinds
+nodeKinds = learnKinds ++ messageKinds
 
 -- ---- the list
 
@@ -47,15 +57,15 @@ lines =
     -- (a) two of learn, send, receive, for different nodes
     otherNodes nodeKinds nodeKinds
     -- (b) service with send or receive
-    ∷ anyNodes serviceKinds (sendKinds ++ receiveKinds)
+    ∷ anyNodes serviceKinds messageKinds
     -- (c) service with switch
     ∷ anyNodes serviceKinds switchKinds
     -- (d) learn with switch
     ∷ anyNodes learnKinds switchKinds
     -- (e) send for n with 8, 9, 10 or 11 for another node
-    ∷ otherNodes sendKinds (8 ∷ 9 ∷ 10 ∷ 11 ∷ [])
+    ∷ otherNodes sendKinds streamKinds
     -- (f) receive for n with 8 or 11 for another node
-    ∷ otherNodes receiveKinds (8 ∷ 11 ∷ [])
+    ∷ otherNodes receiveKinds quietKinds
     ∷ []
 
 -- The line lets two nodes in.

@@ -1,5 +1,5 @@
 -- What a host is told, by the tests that the code makes; and four places put one behind the other. Assumes nothing.
-use mathlib.Core.Path.{_≡_, ap, _∙_}
+use mathlib.Core.Path.{_≡_, sym, ap, _∙_}
 use mathlib.Core.Logic.{_≢_}
 use mathlib.Core.List.{List, [], _∷_, _++_}
 use Prim.Native.Nat.{ℕ, _+_, _≤_, _<_}
@@ -13,7 +13,7 @@ use Rattle.lists.specs.EventList.{refusal, over}
 use Rattle.lists.specs.Written.{over-more}
 use Rattle.comparing.specs.declared.Finding.{Finding}
 use Rattle.comparing.specs.Compared.{compared}
-use Rattle.merging.specs.Told.{placesLength, twoBytes, placeBytes, given, told}
+use Rattle.merging.specs.Told.{placesLength, twoBytes, placeBytes, Told, given, told}
 
 -- ---- the bytes
 
@@ -54,3 +54,7 @@ module _ (first second out : List ℕ) where
 
     pub told-refused : compared first second .verdict < 256 → told first second out ≡ record { returned = compared first second .verdict; places = out }
     told-refused h = long-told ∙ simp (lt-leb 256 (compared first second .verdict) h)
+
+-- What is returned and the places, each by itself.
+pub told-both : {t u : Told} → t ≡ u → (u .returned ≡ t .returned) × (u .places ≡ t .places)
+told-both e = (ap (λ (x : Told). x .returned) (sym e), ap (λ (x : Told). x .places) (sym e))

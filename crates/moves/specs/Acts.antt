@@ -1,15 +1,14 @@
 -- A step of a rule on a body: refused, the body stays; done, the body is that of the state with the rule's effect. Assumes nothing.
 use mathlib.Core.Path.{_≡_, refl, sym, ap, _∙_}
 use mathlib.Core.Logic.{_≢_}
-use mathlib.Core.Bool.{Bool, true, false, cond}
-use mathlib.Core.List.{List, [], _∷_, _++_, append-nil}
+use mathlib.Core.Bool.{false}
+use mathlib.Core.List.{List, _++_, append-nil}
 use Prim.Native.Nat.{ℕ}
 use native.Mathlib.Omega.{arith}
-use lib.Dec.{T}
 use Rattle.rules.specs.Codes.{stepDone, notAllowed}
 use Rattle.rules.specs.State as S
 use Rattle.rules.specs.Part.{Out, refuse, done, Part, settle, via, Rule, decide}
-use Rattle.laws.specs.Decide.{Passes, Decided, barred, no-term, no-history, no-queue, passed, decided, decides}
+use Rattle.laws.specs.Decide.{Passes, Decided, barred, no-term, no-history, no-queue, passed, decided, decides, via-is}
 use Rattle.state.specs.Reads.{answerOf}
 use Rattle.state.specs.declared.Body.{Body}
 use Rattle.state.specs.declared.Moved.{Moved}
@@ -35,24 +34,10 @@ module _ {St R W : Type 0} (p : Part St R W) (s : St) (r : Rule R W) where
       go (done a w) = refl
 
   pub stayed : answerOf (decide r (p .get s)) ≢ stepDone → settle p s (decide r (p .get s)) .state ≡ s
-  stayed h = go (decided r (p .get s)) h
-    where
-      go : {o : Out ℕ W} → Decided r (p .get s) o → answerOf o ≢ stepDone → settle p s o .state ≡ s
-      go (barred a) h = refl
-      go (no-term a t) h = refl
-      go (no-history a t k) h = refl
-      go (no-queue a t k q) h = refl
-      go (passed k) h = absurd (h refl)
+  stayed h = via-is (λ x. x .answer ≢ stepDone → x .state ≡ s) p r s (λ a d z. refl) (λ k z. absurd (z refl)) (λ z. h (sym answered ∙ z))
 
   pub put-in : answerOf (decide r (p .get s)) ≡ stepDone → settle p s (decide r (p .get s)) .state ≡ p .put (r .effect (p .get s)) s
-  put-in e = go (decided r (p .get s)) e
-    where
-      go : {o : Out ℕ W} → Decided r (p .get s) o → answerOf o ≡ stepDone → settle p s o .state ≡ p .put (r .effect (p .get s)) s
-      go (barred a) e = absurd (omega arith)
-      go (no-term a t) e = absurd (omega arith)
-      go (no-history a t k) e = absurd (omega arith)
-      go (no-queue a t k q) e = absurd (omega arith)
-      go (passed k) e = refl
+  put-in e = ap (λ (o : Out ℕ W). settle p s o .state) (decides r (p .get s) (passed (passes r (p .get s) e)))
 
 -- The answer of a step that accepts no write.
 abbrev pub plain : ℕ → Body → Moved

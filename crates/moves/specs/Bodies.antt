@@ -1,8 +1,8 @@
 -- A body and a history are a state of the rules; what a step of the code leaves, said by the step of the rules.
 use mathlib.Core.Path.{_≡_}
-use mathlib.Core.Bool.{Bool, cond}
+use mathlib.Core.Bool.{cond}
 use mathlib.Core.List.{List, [], _∷_, _++_}
-use Prim.Native.Nat.{ℕ, _≤_}
+use Prim.Native.Nat.{ℕ}
 use lib.Dec.{T}
 use Rattle.rules.specs.State as S
 use Rattle.rules.specs.Range.{inRange}

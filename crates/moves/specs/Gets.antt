@@ -1,6 +1,5 @@
 -- What the code reads of node n's rows is what the rule's class reads of the state. Assumes nothing.
-use mathlib.Core.Path.{_≡_, refl, sym, ap, _∙_}
-use mathlib.Core.Bool.{Bool}
+use mathlib.Core.Path.{_≡_, sym}
 use mathlib.Core.List.{List}
 use Prim.Native.Nat.{ℕ, _-_, _<_}
 use lib.ListN.{length, getD}

@@ -1,9 +1,8 @@
 -- What the code stores into the structs of a state is what the rule's class writes into the state. Assumes nothing.
-use mathlib.Core.Path.{_≡_, refl, sym, ap, ap₂, _∙_}
-use mathlib.Core.Logic.{_≢_}
-use mathlib.Core.Bool.{Bool, true, false}
+use mathlib.Core.Path.{_≡_, sym, ap, ap₂}
+use mathlib.Core.Bool.{Bool, false}
 use mathlib.Core.List.{List, []}
-use Prim.Native.Nat.{ℕ, _-_, _≤_, _<_}
+use Prim.Native.Nat.{ℕ, _-_, _<_}
 use lib.ListN.{length, getD, set}
 use lib.Seq.{getD-set-same, getD-set-other}
 use Rattle.rules.specs.Limits.{mostNodes}
@@ -13,8 +12,6 @@ use Rattle.seqs.specs.Tables.{table-get, table-set}
 use Rattle.state.specs.Hold.{packNode, packStream, nodeRow, streamRow, packNodes, packStreams}
 use Rattle.state.specs.Stores.{storeInbox, storeSent, storeSays, storeReceived, storeOpen, storeServing}
 use Rattle.state.specs.Order.{pastNode, pastStream}
-use Rattle.state.specs.declared.Node.{Node}
-use Rattle.state.specs.declared.Stream.{Stream}
 
 -- ---- a row of the arrays
 

@@ -8,8 +8,6 @@ use Rattle.parts.specs.declared.Term.{Term}
 use Rattle.state.specs.declared.Node.{Node}
 use Rattle.state.specs.declared.Stream.{Stream}
 use Rattle.state.specs.declared.Claims.{Claims}
-use Rattle.state.specs.declared.Core.{Core}
-use Rattle.state.specs.declared.Wire.{Wire}
 use Rattle.state.specs.declared.Body.{Body}
 
 abbrev pub withDesk : Mastership → List Node → Body → Body

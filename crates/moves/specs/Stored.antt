@@ -8,15 +8,15 @@ use lib.ListN.{length, getD, set}
 use Rattle.rules.specs.Limits.{mostNodes}
 use Rattle.rules.specs.State as S
 use Rattle.rules.specs.Parts.{Inbox, Sent, Received, Telling, Serving, Power, servicePart, learnPart, sendPart, receivePart, linkPart, tellPart, servePart, powerPart, onDevice}
-use Rattle.laws.specs.InRange.{InRange, CoreFits, WireFits}
+use Rattle.laws.specs.InRange.{CoreFits}
 use Rattle.laws.specs.RangeTest.{range-sound}
 use Rattle.seqs.specs.Columns.{column}
 use Rattle.parts.specs.Hold.{packMastership}
 use Rattle.parts.specs.Ordered.{OrderedMastership}
 use Rattle.parts.specs.declared.Mastership.{Mastership}
 use Rattle.state.specs.Hold.{eventsAt, learnedAt, saysAt, nodeRow, streamRow, packNodes, packStreams, packClaims, packCore, holdCore, holdDesk, holdWire, represent}
-use Rattle.state.specs.Order.{OrderedNodes, OrderedWire, OrderedNode, OrderedStream, pastNode, pastStream}
-use Rattle.state.specs.Stores.{storeEvents, storeInbox, storeSent, storeSays, storeReceived, storeOpen, storeTelling, storeServing, packWire}
+use Rattle.state.specs.Order.{OrderedNodes, OrderedWire, pastNode, pastStream}
+use Rattle.state.specs.Stores.{storeEvents, storeInbox, storeSent, storeSays, storeReceived, storeOpen, storeTelling, storeServing}
 use Rattle.state.specs.declared.Node.{Node}
 use Rattle.state.specs.declared.Stream.{Stream}
 use Rattle.state.specs.declared.Claims.{Claims}

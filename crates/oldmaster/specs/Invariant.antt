@@ -9,7 +9,7 @@ use Rattle.rules.specs.Queues.{push}
 use Rattle.rules.specs.Ids.{electionId}
 use Rattle.rules.specs.Step.{Event}
 use Rattle.laws.specs.InRange.{All}
-use Rattle.laws.specs.Lists.{all-with, all-append, all-push}
+use Rattle.laws.specs.Lists.{all-each, all-append, all-push}
 use Rattle.oldmaster.specs.KeptOut.{Rising}
 use Rattle.oldmaster.specs.Change.{Row, rowAt, eventsAt, serviceOf, lastOf, mastersId, Follows, begins, stays, Sent, an-update, a-write, RowChange, same, learns, sends, shut, takes, handles, Accepts, HistoryChange, kept, accepts, Change}
 
@@ -117,7 +117,7 @@ module _ {count : ℕ} {F : Write → Type 0} {i : ℕ} where
 -- ---- the history
 
 below-more : {F : Write → Type 0} {last : ℕ} {h : List Write} → HistoryLaw F last h → (high : ℕ) → last ≤ high → All (λ w. w .term ≤ high) h
-below-more {h = h} k high up = all-with (λ w a b. omega arith) h (k .below) (k .below)
+below-more {h = h} k high up = all-each (λ w a. omega arith) h (k .below)
 
 module _ {F : Write → Type 0} {e : Event} {s t : State} (rows : (i : ℕ) → RowLaw (s .count) F i (rowAt s i)) where
   module _ (a : Accepts e s t) where
@@ -160,12 +160,12 @@ module _ {F G : Write → Type 0} {m : Mastership} (g : Also F G m) where
   row-still {x = x} h = record {
     learned = λ z. g .before _ (h .learned z);
     climbs = h .climbs;
-    requests = all-with (λ r k l. request-still r k) (x .requests) (h .requests) (h .requests);
+    requests = all-each request-still (x .requests) (h .requests);
     id = h .id;
   }
 
   history-still : {last : ℕ} {h : List Write} → HistoryLaw F last h → HistoryLaw G last h
-  history-still {h = h} k = record { node = k .node; named = all-with (λ w a b. g .before w a) h (k .named) (k .named); below = k .below; rising = k .rising }
+  history-still {h = h} k = record { node = k .node; named = all-each (g .before) h (k .named); below = k .below; rising = k .rising }
 
 pub lawful-step : {F G : Write → Type 0} {e : Event} {s t : State} → t .count ≡ s .count → F (by (serviceOf s)) → Also F G (serviceOf t) → Lawful F s → Change e s t → Lawful G t
 lawful-step {F} {G} {e} {s} {t} n says g h c = record {

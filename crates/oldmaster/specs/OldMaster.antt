@@ -4,16 +4,14 @@ use mathlib.Core.Logic.{_≢_, _⊎_, inl, inr}
 use mathlib.Core.List.{List, [], _∷_, _++_, append-nil, append-assoc, List·Memᴰ, List·Memᴰ·not-nil}
 use Prim.Native.Nat.{ℕ, _≤_}
 use native.Mathlib.Omega.{arith}
-use lib.ListN.{getD, replicate}
 use lib.Seq.{append-snoc}
-use Rattle.rules.specs.State.{Mastership, Request, Write, State, blank}
-use Rattle.rules.specs.Queues.{first}
+use Rattle.rules.specs.State.{Mastership, Request, Write, blank}
+use Rattle.rules.specs.Queues.{push, first}
 use Rattle.rules.specs.Rules.{noRequest}
 use Rattle.rules.specs.Step.{Event, step, fresh}
-use Rattle.rules.specs.Run.{run}
-use Rattle.laws.specs.Lists.{all-getD}
-use Rattle.laws.specs.KeepsSwitch.{all-replicate}
+use Rattle.laws.specs.Lists.{replicate-at}
 use Rattle.laws.specs.Steps.{step-count}
+use Rattle.laws.specs.Runs.{run-state}
 use Rattle.oldmaster.specs.KeptOut.{stateAfter, serviceAfter, historyAfter, Named, Accepted, OldMastersKeptOut}
 use Rattle.oldmaster.specs.Growing.{nothing-before, FirstPart, all, part, first-part, same-end, one-by-one, all-member}
 use Rattle.oldmaster.specs.Change.{HistoryChange, kept, Accepts, accepts, Change}
@@ -21,10 +19,6 @@ use Rattle.oldmaster.specs.Invariant.{by, Lawful, accepted-term, accepte
 use Rattle.oldmaster.specs.Steps.{step-changes}
 
 -- ---- moments
-
-run-more : (s : State) (es : List Event) (e : Event) → run step s (es ++ (e ∷ [])) .state ≡ step e (run step s es .state) .state
-run-more s [] e = refl
-run-more s (x ∷ es) e = run-more (step x s .state) es e
 
 module _ (count : ℕ) where
   named-now : (es : List Event) → Named count es (by (serviceAfter count es))
@@ -48,10 +42,12 @@ module _ (count : ℕ) where
         go (part rest p) = inl (record { before = k .before; behind = rest; splits = p; master = k .master; term = k .term })
 
     changed : Change e (stateAfter count es) (stateAfter count (es ++ (e ∷ [])))
-    changed = rw (run-more (fresh count) es e) (step-changes e (stateAfter count es))
+    unfolding push
+    changed = rw (run-state step (fresh count) es e) (step-changes e (stateAfter count es))
 
     lawful-more : Lawful (Named count es) (stateAfter count es) → Lawful (Named count (es ++ (e ∷ []))) (stateAfter count (es ++ (e ∷ [])))
-    lawful-more h = lawful-step (rw (run-more (fresh count) es e) (step-count e (stateAfter count es))) (named-now es)
+    unfolding push
+    lawful-more h = lawful-step (rw (run-state step (fresh count) es e) (step-count e (stateAfter count es))) (named-now es)
         (record { before = named-later; now = named-now (es ++ (e ∷ [])); only = named-earlier }) h changed
 
   lawful-fresh : Lawful (Named count []) (fresh count)
@@ -59,16 +55,13 @@ module _ (count : ℕ) where
   lawful-fresh = record {
     once = λ x y p q a. absurd (a (nobody x p .0));
     bound = λ x p. let z = nobody x p .1 in omega arith;
-    events = λ i m k. absurd (List·Memᴰ·not-nil (rw (same {A = List Mastership} count [] i) at k));
-    rows = λ i. rw (same count blank i, same {A = ℕ} count 0 i, same {A = List Request} count [] i) (record { learned = λ z. absurd (omega arith); climbs = omega arith; requests = tt; id = omega arith });
+    events = λ i m k. absurd (List·Memᴰ·not-nil (rw (replicate-at {A = List Mastership} count [] i) at k));
+    rows = λ i. rw (replicate-at count blank i, replicate-at {A = ℕ} count 0 i, replicate-at {A = List Request} count [] i) (record { learned = λ z. absurd (omega arith); climbs = omega arith; requests = tt; id = omega arith });
     history = record { node = tt; named = tt; below = tt; rising = tt };
   }
     where
       nobody : (x : Write) → Named count [] x → (x .node ≡ 0) × (x .term ≡ 0)
       nobody x k = let e = nothing-before (k .before) (k .behind) (k .splits) in (sym (rw e at (k .master)), sym (rw e at (k .term)))
-
-      same : {A : Type 0} (n : ℕ) (x : A) (i : ℕ) → getD (replicate n x) i x ≡ x
-      same n x i = all-getD (λ y. y ≡ x) (replicate n x) i x refl (all-replicate (λ y. y ≡ x) n x refl)
 
   lawful : (es : List Event) → Lawful (Named count es) (stateAfter count es)
   lawful = one-by-one (λ es. Lawful (Named count es) (stateAfter count es)) lawful-fresh lawful-more

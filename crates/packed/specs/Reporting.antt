@@ -13,7 +13,7 @@ use Rattle.text.specs.Put.{Put}
 use Rattle.update.specs.Update.{Update, reading}
 use Rattle.update.specs.Seen.{rawOf}
 use Rattle.update.specs.declared.Raw.{Raw}
-use Rattle.packed.specs.Bytes.{fieldBytes, fieldLength, bufferShort, reportedAs, reported}
+use Rattle.packed.specs.Bytes.{fieldBytes, fieldLength, bufferShort, Reported, reportedAs, reported}
 use Rattle.packed.specs.Little.{little-length}
 
 pub field-bytes-length : (r : Raw) → length (fieldBytes r) ≡ fieldLength
@@ -52,3 +52,7 @@ module _ (message fields : List ℕ) (r : Raw) (is : r ≡ rawOf (reading messag
       go : (s : Reading Update) → reading message ≡ s → reportedAs s fields ≡ record { returned = r .code; fields = fields }
       go (whole u) e = absurd (fault (ap (λ (x : Raw). x .code) (found (whole u) e)))
       go (broken why) e = ap (λ (x : Raw). record { returned = x .code; fields = fields }) (sym (found (broken why) e))
+
+-- What is returned and the buffer, each by itself.
+pub reported-both : {r s : Reported} → r ≡ s → (s .returned ≡ r .returned) × (s .fields ≡ r .fields)
+reported-both e = (ap (λ (x : Reported). x .returned) (sym e), ap (λ (x : Reported). x .fields) (sym e))

@@ -87,10 +87,10 @@ common-le (w ∷ ws) (v ∷ vs) = go (sameWrite w v) (common-le ws vs)
     go true h = omega arith
     go false h = omega arith
 
-pub parted : (one : List ℕ) (n : ℕ) (other : List ℕ) (m i : ℕ) → i ≡ common (entries one n) (entries other m)
-    → difference (entries one n) (entries other m) ≡ cond (eqb i n && eqb i m) agrees (differsAt i (entries one n) (entries other m))
+pub parted : (one : List ℕ) (n : ℕ) (other : List ℕ) (m i : ℕ) → i ≡ common (entries one n) (entries other m) → (b : Bool) → (eqb i n && eqb i m) ≡ b
+    → difference (entries one n) (entries other m) ≡ cond b agrees (differsAt i (entries one n) (entries other m))
 unfolding difference
-parted one n other m i is = rw (← is, table-length n (entryAt one), table-length m (entryAt other))
+parted one n other m i is b test = rw (← is, table-length n (entryAt one), table-length m (entryAt other), test)
 
 pub differs-in : (ws vs : List Write) (i : ℕ) {a b : Entry} → writeOf a ≡ getD ws i noWrite → writeOf b ≡ getD vs i noWrite → record { at = i + 1; one = a; other = b } ≡ differsAt i ws vs
 differs-in ws vs i p q = ap₂ (λ (a b : Write). record { at = i + 1; one = entryOf a; other = entryOf b }) p q

@@ -1,5 +1,4 @@
 -- How a rule acts on a state. A rule sees nothing but what its part reads, and changes nothing but what its part writes.
-use mathlib.Core.Path.{_≡_}
 use mathlib.Core.Bool.{Bool, true, false}
 use Prim.Native.Nat.{ℕ}
 use Rattle.rules.specs.Codes.{stepDone, notAllowed, termsSpent, historyFull, queueFull}

@@ -1,6 +1,6 @@
 -- What each class of steps reads of the state, and what it writes. Node n stands at place n - 1 of a column.
-use mathlib.Core.Bool.{Bool, true, false}
-use mathlib.Core.List.{List, [], _∷_, _++_}
+use mathlib.Core.Bool.{Bool, false}
+use mathlib.Core.List.{List, [], _++_}
 use Prim.Native.Nat.{ℕ, _-_}
 use lib.ListN.{length, getD, set}
 use Rattle.rules.specs.Part.{Part}

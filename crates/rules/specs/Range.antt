@@ -79,11 +79,15 @@ streamFits isOpen sent requests responses id term =
     leb sent topTerm && queueFits requestFits requests && queueFits responseFits responses && leb id topId && leb term topTerm
     && (isOpen || (eqb sent 0 && empty requests && empty responses && eqb id 0 && eqb term 0))
 
+abbrev pub streamFitsAt : Wire → ℕ → Bool
+streamFitsAt w i =
+    streamFits (getD (w .opens) i false) (getD (w .sent) i 0) (getD (w .requests) i []) (getD (w .responses) i []) (getD (w .ids) i 0) (getD (w .terms) i 0)
+
 unfoldable pub wireFits : ℕ → Bool → Wire → Bool
 wireFits count running w =
     eqb (length (w .opens)) count && eqb (length (w .sent)) count && eqb (length (w .requests)) count && eqb (length (w .responses)) count
     && eqb (length (w .ids)) count && eqb (length (w .terms)) count
-    && each count (λ i. streamFits (getD (w .opens) i false) (getD (w .sent) i 0) (getD (w .requests) i []) (getD (w .responses) i []) (getD (w .ids) i 0) (getD (w .terms) i 0))
+    && each count (streamFitsAt w)
     && distinctIds (w .ids)
     && (running || all not (w .opens))
     && leb (w .last) topTerm

@@ -2,15 +2,15 @@
 use mathlib.Core.Bool.{Bool, true, false, not, cond, _&&_, _||_}
 use mathlib.Core.List.{List, [], _∷_, map}
 use Prim.Native.Nat.{ℕ, _+_, _-_}
-use lib.ListN.{length, getD, set}
+use lib.ListN.{getD, set}
 use lib.Dec.{leb, ltb, eqb}
 use Rattle.rules.specs.Limits.{topTerm, historyLength}
-use Rattle.rules.specs.State.{Mastership, Message, update, write, Status, ok, alreadyExists, permissionDenied, Request, Response, Write, Desk, Wire, blank}
-use Rattle.rules.specs.Queues.{push, first, rest, empty, room, roomAll, has, remove}
+use Rattle.rules.specs.State.{Mastership, Message, update, write, Status, ok, alreadyExists, permissionDenied, Request, Response, Desk, Wire, blank}
+use Rattle.rules.specs.Queues.{push, first, rest, empty, room, roomAll, remove}
 use Rattle.rules.specs.Ids.{electionId, termOf, named, idFor}
 use Rattle.rules.specs.Part.{Rule, always}
 use Rattle.rules.specs.Parts.{Inbox, Sender, Sent, Receiver, Received, Linked, Told, Telling, Served, Serving, Power, Class, service, learn, send, receive, link, tell, serve, power, Reads, Writes}
-use Rattle.rules.specs.Election.{masterOf, largest, taken, news, tellAll, roomOpen}
+use Rattle.rules.specs.Election.{masterOf, taken, news, tellAll, roomOpen}
 
 -- ---- the service: 1, 2
 

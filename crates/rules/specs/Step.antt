@@ -1,10 +1,10 @@
 -- The step: which kinds and nodes exist, and the order of all answers.
-use mathlib.Core.Bool.{Bool, true, false, _&&_}
+use mathlib.Core.Bool.{Bool, true, false}
 use mathlib.Core.Option.{Option, none, some}
 use mathlib.Core.List.{List, [], _∷_}
 use Prim.Native.Nat.{ℕ}
 use lib.ListN.{getD, replicate}
-use lib.Dec.{leb, eqb}
+use lib.Dec.{eqb}
 use Rattle.rules.specs.Codes.{outOfRange, unknownKind, unknownNode}
 use Rattle.rules.specs.State.{State, blank}
 use Rattle.rules.specs.Range.{within, inRange}
@@ -17,10 +17,13 @@ pub record Event : Type 0 where
   pub kind : ℕ
   pub node : ℕ
 
--- The kinds by their numbers, from 1.
+-- The kinds at their numbers, from 1.
+abbrev pub kinds : List (Option Kind)
+kinds = none ∷ some join ∷ some leave ∷ some learns ∷ some sendUpdate ∷ some receiveUpdate ∷ some sendWrite ∷ some receiveWrite
+    ∷ some connect ∷ some close ∷ some handleUpdate ∷ some handleWrite ∷ some shutdown ∷ some startup ∷ []
+
 abbrev pub kindOf : ℕ → Option Kind
-kindOf k = getD (none ∷ some join ∷ some leave ∷ some learns ∷ some sendUpdate ∷ some receiveUpdate ∷ some sendWrite ∷ some receiveWrite
-    ∷ some connect ∷ some close ∷ some handleUpdate ∷ some handleWrite ∷ some shutdown ∷ some startup ∷ []) k none
+kindOf k = getD kinds k none
 
 -- The node that a class calls for: one of the N, or 0 for 12 and 13.
 abbrev pub called : Class → ℕ → ℕ → Bool

@@ -1,14 +1,13 @@
 -- What a state of structs holds, in the words of the rules, and how a state of the rules is written into structs.
-use mathlib.Core.Bool.{Bool, true, false}
+use mathlib.Core.Bool.{Bool, false}
 use mathlib.Core.List.{List, []}
 use Prim.Native.Nat.{ℕ}
-use lib.ListN.{length, take, getD}
+use lib.ListN.{length, getD}
 use Rattle.rules.specs.Limits.{mostNodes, historyLength}
 use Rattle.rules.specs.State as S
 use Rattle.seqs.specs.Columns.{column}
 use Rattle.seqs.specs.Tables.{table}
 use Rattle.seqs.specs.Padded.{padded}
-use Rattle.seqs.specs.Queue.{Queue}
 use Rattle.parts.specs.declared.Mastership.{Mastership}
 use Rattle.parts.specs.declared.ElectionId.{ElectionId}
 use Rattle.parts.specs.declared.Term.{Term}

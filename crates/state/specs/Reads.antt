@@ -1,16 +1,13 @@
 -- What each class of steps reads, taken from the structs that hold it.
-use mathlib.Core.Bool.{Bool, false}
+use mathlib.Core.Bool.{Bool}
 use mathlib.Core.List.{List, []}
 use Prim.Native.Nat.{ℕ, _-_}
 use lib.ListN.{getD}
-use Rattle.rules.specs.Codes.{stepDone}
-use Rattle.rules.specs.State as S
 use Rattle.rules.specs.Part.{Out, refuse, done}
 use Rattle.rules.specs.Parts.{Inbox, Sender, Receiver, Linked, Told, Served, Power}
 use Rattle.seqs.specs.Columns.{column}
 use Rattle.parts.specs.Hold.{holdMastership, holdEvents, holdRequests, holdResponses}
-use Rattle.parts.specs.declared.Mastership.{Mastership}
-use Rattle.state.specs.Hold.{holdWire, openAt, requestsAt, responsesAt, sentAt, idAt, termAt}
+use Rattle.state.specs.Hold.{holdWire, idAt, termAt}
 use Rattle.state.specs.declared.Node.{Node}
 use Rattle.state.specs.declared.Stream.{Stream}
 use Rattle.state.specs.declared.Claims.{Claims}

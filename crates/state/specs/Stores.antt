@@ -3,10 +3,10 @@ use mathlib.Core.Bool.{Bool, true}
 use mathlib.Core.List.{List, []}
 use Prim.Native.Nat.{ℕ}
 use Rattle.rules.specs.State as S
-use Rattle.rules.specs.Parts.{Inbox, Sent, Received, Telling, Serving, Power, tellPart}
+use Rattle.rules.specs.Parts.{Inbox, Sent, Received, Telling, Serving, tellPart}
 use Rattle.seqs.specs.Columns.{column}
 use Rattle.parts.specs.Hold.{packMastership, packEvents, packRequests, packResponses}
-use Rattle.state.specs.Hold.{eventsAt, learnedAt, saysAt, holdWire, packNodes, packStreams, packClaims}
+use Rattle.state.specs.Hold.{learnedAt, saysAt, holdWire, packNodes, packStreams, packClaims}
 use Rattle.state.specs.declared.Node.{Node}
 use Rattle.state.specs.declared.Stream.{Stream}
 use Rattle.state.specs.declared.Claims.{Claims}

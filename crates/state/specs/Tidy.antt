@@ -13,15 +13,11 @@ use Rattle.parts.specs.declared.Status.{Status}
 use Rattle.parts.specs.declared.Status.the-variants as T
 use Rattle.parts.specs.declared.Request.{Request}
 use Rattle.parts.specs.declared.Response.{Response}
-use Rattle.parts.specs.declared.EventQueue.{EventQueue}
-use Rattle.parts.specs.declared.RequestQueue.{RequestQueue}
-use Rattle.parts.specs.declared.ResponseQueue.{ResponseQueue}
 use Rattle.parts.specs.declared.ElectionId.{ElectionId}
 use Rattle.parts.specs.declared.Term.{Term}
 use Rattle.state.specs.Hold.{hold}
 use Rattle.state.specs.declared.Node.{Node}
 use Rattle.state.specs.declared.Stream.{Stream}
-use Rattle.state.specs.declared.Claims.{Claims}
 use Rattle.state.specs.declared.Core.{Core}
 use Rattle.state.specs.declared.Write.{Write}
 use Rattle.state.specs.declared.History.{History}

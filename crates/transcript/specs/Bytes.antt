@@ -1,17 +1,14 @@
 -- The same text, read from the buffer that a run has filled.
 use mathlib.Core.List.{List, _++_}
-use Prim.Native.Nat.{ℕ, _+_, _*_}
+use Prim.Native.Nat.{ℕ}
 use lib.ListN.{drop}
-use Rattle.lists.specs.EventList.{byteAt, recordCount}
-use Rattle.text.specs.Lines.{writesLine, writeLine}
-use Rattle.transcript.specs.Transcript.{lines, recordLineAt}
-
--- The term of entry number i, the least byte first.
-abbrev pub termAt : List ℕ → ℕ → ℕ
-termAt part i = byteAt part (4 * i + 2) + 256 * byteAt part (4 * i + 3)
+use Rattle.lists.specs.EventList.{recordCount}
+use Rattle.text.specs.Lines.{writesLine}
+use Rattle.transcript.specs.Entries.{entryAt}
+use Rattle.transcript.specs.Transcript.{lines, recordLineAt, lineOf}
 
 abbrev pub entryLineAt : List ℕ → ℕ → List ℕ
-entryLineAt part i = writeLine (byteAt part (4 * i)) (termAt part i)
+entryLineAt part i = lineOf (entryAt part i)
 
 unfoldable pub bytesText : List ℕ → List ℕ → ℕ → List ℕ
 bytesText list out writes =

@@ -1,3 +1,4 @@
+pub mod Entries
 pub mod Transcript
 pub mod Bytes
 pub mod Lines

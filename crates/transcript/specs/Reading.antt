@@ -1,8 +1,7 @@
 -- What is read from the buffer that a run has filled is what the run gave. Assumes nothing.
 use mathlib.Core.Path.{_≡_, ap, ap₂, _∙_}
-use mathlib.Core.List.{List, [], _∷_, _++_, append-assoc}
-use Prim.Native.Nat.{ℕ, zero, suc, _+_, _*_, _/_, _%_, _<_, _≤_}
-use native.Mathlib.Nat.{le-of-suc-le-suc}
+use mathlib.Core.List.{List, _++_, append-assoc}
+use Prim.Native.Nat.{ℕ, _+_, _<_, _≤_}
 use native.Mathlib.Omega.{arith}
 use lib.ListN.{length, drop, List·getD-append}
 use lib.Seq.{drop-at}
@@ -10,32 +9,16 @@ use Rattle.rules.specs.Limits.{historyLength}
 use Rattle.rules.specs.State.{Write}
 use Rattle.laws.specs.RangeTest.{range-sound}
 use Rattle.laws.specs.Steps.{run-keeps, fresh-fits}
+use Rattle.laws.specs.Runs.{run-length}
 use Rattle.rules.specs.Step.{step, fresh}
-use Rattle.lists.specs.EventList.{nodeCount, recordCount, records, byteAt, historyBytes}
+use Rattle.lists.specs.EventList.{nodeCount, recordCount, records, historyBytes}
 use Rattle.lists.specs.Good.{Good, records-length}
 use Rattle.runner.specs.Ran.{wholeRun}
-use Rattle.runner.specs.Running.{run-length}
-use Rattle.text.specs.Lines.{writeLine, writesLine}
-use Rattle.transcript.specs.Transcript.{recordLineAt, writeLineAt, runText}
-use Rattle.transcript.specs.Bytes.{entryLineAt, bytesText}
+use Rattle.text.specs.Lines.{writesLine}
+use Rattle.transcript.specs.Entries.{entry-read}
+use Rattle.transcript.specs.Transcript.{recordLineAt, lineOf, runText}
+use Rattle.transcript.specs.Bytes.{bytesText}
 use Rattle.transcript.specs.Lines.{lines-same}
-
--- ---- the entries
-
-behind-entry : (a b c d : ℕ) (l : List ℕ) (i j : ℕ) → i ≡ 4 + j → byteAt (a ∷ b ∷ c ∷ d ∷ l) i ≡ byteAt l j
-behind-entry a b c d l i j e = let same : i ≡ suc (suc (suc (suc j))) = omega arith in rw same
-
-entry-read : (ws : List Write) (l : List ℕ) (i : ℕ) → i < length ws → entryLineAt (historyBytes ws ++ l) i ≡ writeLineAt ws i
-unfolding historyBytes
-entry-read [] l i h = absurd (omega arith)
-entry-read (w ∷ ws) l zero h = ap (λ (t : ℕ). writeLine (w .node) t) (omega arith)
-entry-read (w ∷ ws) l (suc i) h =
-    ap₂ writeLine (next (4 * suc i) (4 * i) (omega arith))
-    (ap₂ (λ (x y : ℕ). x + 256 * y) (next (4 * suc i + 2) (4 * i + 2) (omega arith)) (next (4 * suc i + 3) (4 * i + 3) (omega arith)))
-    ∙ entry-read ws l i (le-of-suc-le-suc h)
-  where
-    next : (j k : ℕ) → j ≡ 4 + k → byteAt (historyBytes (w ∷ ws) ++ l) j ≡ byteAt (historyBytes ws ++ l) k
-    next j k e = behind-entry (w .node) 0 (w .term % 256) (w .term / 256) (historyBytes ws ++ l) j k e
 
 module _ (list answers : List ℕ) (ws : List Write) (rest : List ℕ) (all : length answers ≡ recordCount list) where
   part : drop (recordCount list) (answers ++ historyBytes ws ++ rest) ≡ historyBytes ws ++ rest
@@ -48,7 +31,7 @@ module _ (list answers : List ℕ) (ws : List Write) (rest : List ℕ) (all : le
   unfolding bytesText runText
   bytes-text = ap₂ (λ (a b : List ℕ). a ++ writesLine (length ws) ++ b)
       (lines-same _ _ (recordCount list) answer-read)
-      (lines-same _ _ (length ws) (λ i h. rw part (entry-read ws rest i h)))
+      (lines-same _ _ (length ws) (λ i h. rw part (ap lineOf (entry-read ws rest i h))))
 
 -- ---- a run of a good list
 

@@ -8,6 +8,7 @@ use Rattle.rules.specs.State.{Write}
 use Rattle.lists.specs.EventList.{refusal, recordCount, recordAt}
 use Rattle.runner.specs.Ran.{wholeRun}
 use Rattle.text.specs.Lines.{recordLine, writesLine, writeLine, refusedLine}
+use Rattle.transcript.specs.Entries.{noWrite}
 
 -- The first n of the lines f 0, f 1, f 2 and so on.
 unfoldable pub lines : (ℕ → List ℕ) → ℕ → List ℕ
@@ -18,11 +19,11 @@ lines f (suc n) = lines f n ++ f n
 abbrev pub recordLineAt : List ℕ → List ℕ → ℕ → List ℕ
 recordLineAt list answers i = recordLine (i + 1) (recordAt list i .kind) (recordAt list i .node) (getD answers i 0)
 
-abbrev pub noWrite : Write
-noWrite = record { node = 0; term = 0 }
+abbrev pub lineOf : Write → List ℕ
+lineOf w = writeLine (w .node) (w .term)
 
 abbrev pub writeLineAt : List Write → ℕ → List ℕ
-writeLineAt writes i = writeLine (getD writes i noWrite .node) (getD writes i noWrite .term)
+writeLineAt writes i = lineOf (getD writes i noWrite)
 
 -- A line for each record, the number of writes, and a line for each of them.
 unfoldable pub runText : List ℕ → List ℕ → List Write → List ℕ

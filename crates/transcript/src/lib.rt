@@ -7,7 +7,8 @@ ghost use Rattle.rules.specs.Limits.{historyLength};
 ghost use Rattle.runner.specs.Running.{Trails};
 ghost use Rattle.text.specs.Put.{Put};
 ghost use Rattle.transcript.specs.Transcript.{recordLineAt, transcript};
-ghost use Rattle.transcript.specs.Bytes.{termAt, entryLineAt, bytesText, longestText};
+ghost use Rattle.transcript.specs.Entries.{entryAt};
+ghost use Rattle.transcript.specs.Bytes.{entryLineAt, bytesText, longestText};
 ghost use Rattle.transcript.specs.Lines.{Lined};
 use lists::Trailer;
 
@@ -38,7 +39,7 @@ fn put_records(buf: &mut [u8], list: &[u8], trailer: Trailer, answers: &[u8]) ->
 // The term of entry number i of the history.
 fn term_at(part: &[u8], i: usize) -> u16
     requires { ⌜ 4 * i + 4 ≤ length (now part) ⌝ }
-    ensures { λ r. ⌜ r ≡ termAt (now (part .entry)) i ⌝ }
+    ensures { λ r. ⌜ r ≡ entryAt (now (part .entry)) i .term ⌝ }
 {
     part[4 * i + 2] as u16 + 256 * (part[4 * i + 3] as u16)
 }

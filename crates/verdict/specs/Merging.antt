@@ -8,7 +8,7 @@ use Prim.Native.Nat.{ℕ}
 use lib.Dec.{T, eqb, eqb→eq}
 use borrow.Author.Tests.{eq-eqb}
 use Rattle.laws.specs.InRange.{All}
-use Rattle.laws.specs.Lists.{all-with}
+use Rattle.laws.specs.Lists.{all-each}
 use Rattle.merges.specs.Independent.{independent}
 use Rattle.verdict.specs.Verdict.{Exchanges, Independent}
 use Rattle.verdict.specs.Pairs.{kept}
@@ -22,7 +22,7 @@ self n = eq-eqb n n refl
 
 -- ---- what holds of all records holds of all logs, and back
 
--- What is kept of each log is what l has of it.
+-- What holds of the records of each log holds of every record.
 all-of-logs : (P : Logged → Type 0) (l : List Logged) → ((n : ℕ) → All P (ofLog n l)) → All P l
 all-of-logs P [] h = tt
 all-of-logs P (x ∷ l) h = (
@@ -94,7 +94,7 @@ module _ (count : ℕ) (may : Logged → Logged → Bool) where
   every-merge (e ∷ es) fs h s t =
       let own : ofLog (e .log) fs ≡ e ∷ ofLog (e .log) es = sym (s (e .log)) ∙ ap (λ b. kept b e (ofLog (e .log) es)) (self (e .log)) in
       let none : Passable e e = λ other before. absurd (other refl) in
-      let all : All (Passable e) fs = same-logs-all (Passable e) (e ∷ es) fs s (none, all-with (λ x a b. passable e x a) es (h .0) (h .0)) in
+      let all : All (Passable e) fs = same-logs-all (Passable e) (e ∷ es) fs s (none, all-each (passable e) es (h .0)) in
       let p = bring e (ofLog (e .log) es) fs own all t in
       chain (under e (every-merge es (p .rest) (h .1) (λ n. kept-same (eqb n (e .log)) e (ofLog n es) (ofLog n (p .rest)) (s n ∙ p .logs n)) (p .timely))) (p .moves)
 

@@ -2,14 +2,14 @@
 use mathlib.Core.Path.{_≡_, refl, sym, ap, ap₂, subst, _∙_}
 use mathlib.Core.Logic.{_≢_}
 use mathlib.Core.List.{List}
-use Prim.Native.Nat.{ℕ, _+_, _-_, _<_, _≤_}
+use Prim.Native.Nat.{ℕ, _+_, _-_, _*_, _/_, _%_, _<_, _≤_}
 use native.Mathlib.Omega.{arith}
 use lib.ListN.{length, take, drop, length-append, length-drop}
 use lib.Seq.{drop-drop, length-take-le, take-append-seam}
 use borrow.Author.Tests.{le-leb, lt-leb}
 use Rattle.wire.specs.Numbers.{Fault, cutShort, tooLarge, badTag, codeOf, Taken, taken, fault, after, number}
 use Rattle.wire.specs.Fields as Fields
-use Rattle.wire.specs.Fields.{varint, fixed, bytes, part, asVarint, asFixed, partAs, asBytes, content, tagged, field}
+use Rattle.wire.specs.Fields.{varint, fixed, bytes, part, asVarint, asFixed, partAs, asBytes, content, lastNumber, tagged, field}
 use Rattle.wire.specs.Places.{placeOf, firstByte, foundNumber, numberAt, noField, standing, foundField, fieldAt, fieldOf}
 use Rattle.wire.specs.Joining.{place-drop, one-byte}
 use Rattle.wire.specs.Readers.{Behind, reads-number, number-shorter, reads-field, field-shorter, holds-field}
@@ -89,35 +89,34 @@ module _ (message : List ℕ) (at : ℕ) (r : Number) where
 
 -- ---- the field whose tag has been seen
 
+-- The tag of field n with a wire type, and what it says of the bytes behind it.
+tag-says : (wire n : ℕ) → wire < 8 → 1 ≤ n → n ≤ lastNumber → tagged (wire + 8 * n) ≡ content wire n
+unfolding tagged
+tag-says wire n w low high =
+    let k : (wire + 8 * n) / 8 ≡ n = omega arith in
+    let j : (wire + 8 * n) % 8 ≡ wire = omega arith in
+    λ i l. (let e : tagged (wire + 8 * n) l ≡ content wire n l = rw (k, j, le-leb 1 n low, le-leb n lastNumber high) in e) i
+
 -- Who has seen a tag of one byte knows what stands behind it.
-pub with-tag : (message : List ℕ) (at byte tag : ℕ) (behind : List ℕ → Taken Fields.Field) → byte ≡ firstByte message at → byte ≡ tag → tag < 128 → tagged tag ≡ behind
-    → foundField message (behind (drop (at + 1) message)) ≡ fieldAt message at
-unfolding fieldAt field
-with-tag message at byte tag behind is same small e =
-    ap (λ (g : List ℕ → Taken Fields.Field). foundField message (g (drop (at + 1) message))) (sym e)
-    ∙ with-number message at (record { code = 0; value = tag; next = at + 1 }) (first-found message at tag (sym same ∙ is) small) tagged
+module _ (message : List ℕ) (at byte : ℕ) (is : byte ≡ firstByte message at) where
+  pub seen-inside : byte < 128 → at + 1 ≤ length message
+  seen-inside small = first-found message at byte is small .inside
 
-pub number-1 : tagged 8 ≡ asVarint 1
-unfolding tagged content
-number-1 = refl
+  seen : (wire n : ℕ) → wire < 8 → 1 ≤ n → n < 16 → byte ≡ wire + 8 * n → foundField message (content wire n (drop (at + 1) message)) ≡ fieldAt message at
+  unfolding fieldAt field
+  seen wire n w low high same =
+      ap (λ (g : List ℕ → Taken Fields.Field). foundField message (g (drop (at + 1) message))) (sym (tag-says wire n w low (omega arith)))
+      ∙ with-number message at (record { code = 0; value = wire + 8 * n; next = at + 1 }) (first-found message at (wire + 8 * n) (sym same ∙ is) (omega arith)) tagged
 
-pub number-2 : tagged 16 ≡ asVarint 2
-unfolding tagged content
-number-2 = refl
+  pub seen-varint : (n : ℕ) → 1 ≤ n → n < 16 → byte ≡ 8 * n → foundField message (asVarint n (drop (at + 1) message)) ≡ fieldAt message at
+  unfolding content
+  seen-varint n low high same = seen 0 n (omega arith) low high (omega arith)
 
-pub bytes-2 : tagged 18 ≡ asBytes 2
-unfolding tagged content
-bytes-2 = refl
+  pub seen-bytes : (n : ℕ) → 1 ≤ n → n < 16 → byte ≡ 2 + 8 * n → foundField message (asBytes n (drop (at + 1) message)) ≡ fieldAt message at
+  unfolding content
+  seen-bytes n low high same = seen 2 n (omega arith) low high same
 
-pub bytes-3 : tagged 26 ≡ asBytes 3
-unfolding tagged content
-bytes-3 = refl
-
-pub bytes-4 : tagged 34 ≡ asBytes 4
-unfolding tagged content
-bytes-4 = refl
-
-module _ (message : List ℕ) (at n size : ℕ) (inside : at ≤ length message) where
+module _ (message : List ℕ) (at size : ℕ) (inside : at ≤ length message) where
   module _ (fits : size ≤ length message - at) where
     long : size ≤ length (drop at message)
     long = let n = length-drop at message in omega arith
@@ -129,11 +128,11 @@ module _ (message : List ℕ) (at n size : ℕ) (inside : at ≤ length message)
     place : placeOf message (drop (at + size) message) ≡ at + size
     place = place-drop message (at + size) (omega arith)
 
-    pub fixed-field : record { code = 0; kind = 1; number = n; value = 0; start = 0; next = at + size } ≡ foundField message (asFixed size n (drop at message))
-    fixed-field = ap (λ (k : ℕ). standing (fixed n) k) (sym place) ∙ ap (λ (t : Taken (List ℕ)). foundField message (after t (λ skipped rest. taken (fixed n) rest))) (sym part-stands)
+    pub fixed-field : (n : ℕ) → record { code = 0; kind = 1; number = n; value = 0; start = 0; next = at + size } ≡ foundField message (asFixed size n (drop at message))
+    fixed-field n = ap (λ (k : ℕ). standing (fixed n) k) (sym place) ∙ ap (λ (t : Taken (List ℕ)). foundField message (after t (λ skipped rest. taken (fixed n) rest))) (sym part-stands)
 
-    pub part-field : record { code = 0; kind = 2; number = n; value = 0; start = at; next = at + size } ≡ foundField message (partAs n size (drop at message))
-    part-field =
+    pub part-field : (n : ℕ) → record { code = 0; kind = 2; number = n; value = 0; start = at; next = at + size } ≡ foundField message (partAs n size (drop at message))
+    part-field n =
         let held = length-take-le size (drop at message) long in
         ap₂ (λ (s k : ℕ). record { code = 0; kind = 2; number = n; value = 0; start = s; next = k }) (omega (arith, place)) (sym place)
         ∙ ap (λ (t : Taken (List ℕ)). foundField message (after t (λ held rest. taken (bytes n held) rest))) (sym part-stands)

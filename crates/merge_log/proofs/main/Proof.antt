@@ -5,83 +5,63 @@ use borrow.Author.Needs.{needs}
 use Rattle.merge_log.proofs.main.Statement.{statement}
 use Rattle.merge_log.proofs.main.Tie as tie
 
--- src/main.rt:29:8
 arg-count-requires : tie.Need-arg-count-requires
 arg-count-requires c κs = search needs
 
--- src/main.rt:30:38
 slice-aggregate-write-all : tie.Need-slice-aggregate-write-all
 slice-aggregate-write-all c = search needs
 
--- src/main.rt:30:9
 write-all-requires : tie.Need-write-all-requires
 write-all-requires c κs = search needs
 
--- src/main.rt:31:9
 returns : tie.Need-returns
 returns c = search needs
 
--- src/main.rt:33:9
 open-argument-requires : tie.Need-open-argument-requires
 open-argument-requires c κs = search needs
 
--- src/main.rt:35:38
 slice-aggregate-write-all-2 : tie.Need-slice-aggregate-write-all-2
 slice-aggregate-write-all-2 c = search needs
 
--- src/main.rt:35:9
 write-all-requires-2 : tie.Need-write-all-requires-2
 write-all-requires-2 c κs = search needs
 
--- src/main.rt:36:9
 returns-2 : tie.Need-returns-2
 returns-2 c = search needs
 
--- src/main.rt:38:19
 room-requires : tie.Need-room-requires
 room-requires c κs = search needs
 
--- src/main.rt:39:33
 slice-aggregate-read-full : tie.Need-slice-aggregate-read-full
 slice-aggregate-read-full c = search needs
 
--- src/main.rt:39:9
 read-full-requires : tie.Need-read-full-requires
 read-full-requires c κs = search needs
 
--- src/main.rt:41:38
 slice-aggregate-write-all-3 : tie.Need-slice-aggregate-write-all-3
 slice-aggregate-write-all-3 c = search needs
 
--- src/main.rt:41:9
 write-all-requires-3 : tie.Need-write-all-requires-3
 write-all-requires-3 c κs = search needs
 
--- src/main.rt:44:33
 array-share-prefix-log : tie.Need-array-share-prefix-log
 array-share-prefix-log c = search needs
 
--- src/main.rt:44:33
 slice-aggregate-answer : tie.Need-slice-aggregate-answer
 slice-aggregate-answer c = search needs
 
--- src/main.rt:44:9
 answer-requires : tie.Need-answer-requires
 answer-requires c κs = search needs
 
--- src/main.rt:45:34
 array-share-prefix-text : tie.Need-array-share-prefix-text
 array-share-prefix-text c = search needs
 
--- src/main.rt:45:34
 slice-aggregate-write-all-4 : tie.Need-slice-aggregate-write-all-4
 slice-aggregate-write-all-4 c = sym (length-take-le _ _ (c .before .answer .ensures .1))
 
--- src/main.rt:45:5
 write-all-requires-4 : tie.Need-write-all-requires-4
 write-all-requires-4 c κs = search needs
 
--- src/main.rt:28:1
 returns-3 : tie.Need-returns-3
 returns-3 c = search needs
 

@@ -1,33 +1,24 @@
 -- `put_numbers` meets its contract. Assumes nothing.
 use borrow.Author.Needs.{needs}
-use Rattle.text.specs.Puts.{put-then, room-first, room-then}
-use Rattle.packed.specs.Bytes.{little}
+use Rattle.text.specs.Puts.{puts, put-then, room-first, room-then}
 use Rattle.packed.proofs.put_numbers.Statement.{statement}
 use Rattle.packed.proofs.put_numbers.Tie as tie
 
 put-little-requires : tie.Need-put-little-requires
-put-little-requires c κs =
-    let start = c .before .before in
-    let a = start .args in
-    room-first (little 8 (a .read .id)) (room-first (little 8 (a .read .high)) (room-first (little 8 (a .read .low)) (room-first (little 4 (a .read .error)) (start .pre))))
+put-little-requires c κs = search puts
 
 put-little-requires-2 : tie.Need-put-little-requires-2
-put-little-requires-2 c κs =
-    let start = c .before .before .before .before .before .before in
-    let a = start .args in
-    room-then (c .before .before .before .put-little .ensures) (room-first (little 8 (a .read .high)) (room-first (little 8 (a .read .low)) (room-first (little 4 (a .read .error)) (start .pre))))
+put-little-requires-2 c κs = search puts
 
 put-little-requires-3 : tie.Need-put-little-requires-3
 put-little-requires-3 c κs =
     let start = c .before .before .before .before .before .before .before .before .before .before in
-    let a = start .args in
-    room-then (put-then (c .before .before .before .before .before .before .before .put-little .ensures) (c .before .before .before .put-little2 .ensures)) (room-first (little 8 (a .read .low)) (room-first (little 4 (a .read .error)) (start .pre)))
+    room-then (put-then (c .before .before .before .before .before .before .before .put-little .ensures) (c .before .before .before .put-little2 .ensures)) (room-first _ (room-first _ (start .pre)))
 
 put-little-requires-4 : tie.Need-put-little-requires-4
 put-little-requires-4 c κs =
     let start = c .before .before .before .before .before .before .before .before .before .before .before .before .before .before in
-    let a = start .args in
-    room-then (put-then (put-then (c .before .before .before .before .before .before .before .before .before .before .before .put-little .ensures) (c .before .before .before .before .before .before .before .put-little2 .ensures)) (c .before .before .before .put-little3 .ensures)) (room-first (little 4 (a .read .error)) (start .pre))
+    room-then (put-then (put-then (c .before .before .before .before .before .before .before .before .before .before .before .put-little .ensures) (c .before .before .before .before .before .before .before .put-little2 .ensures)) (c .before .before .before .put-little3 .ensures)) (room-first _ (start .pre))
 
 put-little-requires-5 : tie.Need-put-little-requires-5
 put-little-requires-5 c κs =

@@ -24,8 +24,7 @@ alike : (c : tie.After-same Inv-loop μ-loop) → let x = c .before .before .bef
 alike c = ap₂ sameWrite (sym (c .before .before .entry-at .ensures)) (sym (c .before .entry-at2 .ensures)) ∙ sym (c .same .ensures)
 
 returns : tie.Need-returns Inv-loop μ-loop
-returns c = let x = c .before .before .before .before .before .args in
-    shared-all (x .n) (x .m) _ (entryAt (x .one .now)) (entryAt (x .other .now)) (c .before .before .loop .inv) (λ h k. absurd (let z = c .if1 .taken in omega arith))
+returns c = shared-all _ _ _ _ _ (c .before .before .loop .inv) (λ h k. absurd (let z = c .if1 .taken in omega arith))
 
 entry-at-requires : tie.Need-entry-at-requires Inv-loop μ-loop
 entry-at-requires c κs = search needs
@@ -37,8 +36,7 @@ same-requires : tie.Need-same-requires Inv-loop μ-loop
 same-requires c κs = search needs
 
 returns-2 : tie.Need-returns-2 Inv-loop μ-loop
-returns-2 c = let x = c .before .before .before .before .before .before .before .before .before .args in
-    shared-all (x .n) (x .m) _ (entryAt (x .one .now)) (entryAt (x .other .now)) (c .before .before .before .before .before .before .loop .inv) (λ h k. alike (c .before) ∙ not-true _ (c .if2 .taken))
+returns-2 c = shared-all _ _ _ _ _ (c .before .before .before .before .before .before .loop .inv) (λ h k. alike (c .before) ∙ not-true _ (c .if2 .taken))
 
 add-i : tie.Need-add-i Inv-loop μ-loop
 add-i c = search needs
@@ -50,8 +48,7 @@ loop-again : tie.Need-loop-again Inv-loop μ-loop
 loop-again c = shared-more (c .before .before .before .before .before .before .loop .inv) (c .before .before .before .before .before .loop-test .taken) (c .before .before .before .before .if1 .left) (alike (c .before) ∙ not-false _ (c .if2 .left))
 
 returns-3 : tie.Need-returns-3 Inv-loop μ-loop
-returns-3 c = let x = c .before .before .before .before .args in
-    shared-all (x .n) (x .m) _ (entryAt (x .one .now)) (entryAt (x .other .now)) (c .before .loop .inv) (λ h k. absurd (let z = c .loop-test .left in omega arith))
+returns-3 c = shared-all _ _ _ _ _ (c .before .loop .inv) (λ h k. absurd (let z = c .loop-test .left in omega arith))
 
 pub common-spec : {M : Type 1} → statement M
 common-spec =

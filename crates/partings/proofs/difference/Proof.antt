@@ -1,11 +1,11 @@
 -- `difference` meets its contract. Assumes nothing.
-use mathlib.Core.Path.{ap, sym, _∙_}
-use mathlib.Core.Bool.{Bool, cond}
+use mathlib.Core.Path.{sym, _∙_}
+use mathlib.Core.Bool.{true, false}
 use Prim.Native.Nat.{_≤_}
 use native.Mathlib.Omega.{arith}
 use Rattle.rules.specs.Limits.{historyLength}
 use Rattle.seqs.specs.Tables.{table-length}
-use Rattle.partings.specs.Difference.{agrees, differsAt, entryAt, entries}
+use Rattle.partings.specs.Difference.{entryAt, entries}
 use Rattle.partings.specs.Entries.{common-le, parted, differs-in}
 use borrow.Author.Needs.{needs}
 use Rattle.partings.proofs.difference.Statement.{statement}
@@ -15,8 +15,7 @@ common-requires : tie.Need-common-requires
 common-requires c κs = search needs
 
 returns : tie.Need-returns
-returns c = let x = c .before .before .before .before .args in
-    sym (parted (x .one .now) (x .n) (x .other .now) (x .m) _ (c .before .common .ensures) ∙ ap (λ (b : Bool). cond b agrees (differsAt (c .before .common .result) (entries (x .one .now) (x .n)) (entries (x .other .now) (x .m)))) (c .if1 .taken))
+returns c = let x = c .before .before .before .before .args in sym (parted (x .one .now) (x .n) (x .other .now) (x .m) _ (c .before .common .ensures) true (c .if1 .taken))
 
 entry-of-requires : tie.Need-entry-of-requires
 entry-of-requires c κs = search needs
@@ -40,9 +39,8 @@ add-t13 c = let n = few c in omega arith
 
 returns-2 : tie.Need-returns-2
 returns-2 c = let x = c .before .before .before .before .before .before .args in
-    let i = c .before .before .before .common .result in
-    differs-in (entries (x .one .now) (x .n)) (entries (x .other .now) (x .m)) i (c .before .entry-of .ensures) (c .entry-of2 .ensures)
-    ∙ sym (parted (x .one .now) (x .n) (x .other .now) (x .m) i (c .before .before .before .common .ensures) ∙ ap (λ (b : Bool). cond b agrees (differsAt i (entries (x .one .now) (x .n)) (entries (x .other .now) (x .m)))) (c .before .before .if1 .left))
+    differs-in (entries (x .one .now) (x .n)) (entries (x .other .now) (x .m)) _ (c .before .entry-of .ensures) (c .entry-of2 .ensures)
+    ∙ sym (parted (x .one .now) (x .n) (x .other .now) (x .m) _ (c .before .before .before .common .ensures) false (c .before .before .if1 .left))
 
 pub difference-spec : {M : Type 1} → statement M
 difference-spec =

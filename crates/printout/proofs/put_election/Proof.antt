@@ -1,7 +1,7 @@
 -- `put_election` meets its contract. Assumes nothing.
 use borrow.Author.Needs.{needs}
-use Rattle.text.specs.Puts.{put-then, room-first, room-then}
-use Rattle.printout.specs.Printout.{highWord, lowWord, numberLine, electionLines}
+use Rattle.text.specs.Puts.{puts, put-then, room-then}
+use Rattle.printout.specs.Printout.{electionLines}
 use Rattle.printout.proofs.put_election.Statement.{statement}
 use Rattle.printout.proofs.put_election.Tie as tie
 
@@ -10,19 +10,14 @@ slice-aggregate-put-flag-line c = search needs
 
 put-flag-line-requires : tie.Need-put-flag-line-requires
 unfolding electionLines
-put-flag-line-requires c κs =
-    let start = c .before .before .before in
-    let r = start .args .read in
-    room-first (numberLine highWord (r .high)) (room-first (numberLine lowWord (r .low)) (start .pre))
+put-flag-line-requires c κs = search puts
 
 slice-aggregate-put-number-line : tie.Need-slice-aggregate-put-number-line
 slice-aggregate-put-number-line c = search needs
 
 put-number-line-requires : tie.Need-put-number-line-requires
 unfolding electionLines
-put-number-line-requires c κs =
-    let start = c .before .before .before .before .before .before .before .before in
-    room-then (c .before .before .before .before .put-flag-line .ensures) (room-first (numberLine lowWord (start .args .read .low)) (start .pre))
+put-number-line-requires c κs = search puts
 
 slice-aggregate-put-number-line-2 : tie.Need-slice-aggregate-put-number-line-2
 slice-aggregate-put-number-line-2 c = search needs
@@ -36,7 +31,7 @@ same-length c = search needs
 
 returns : tie.Need-returns
 unfolding electionLines
-returns c = put-then (put-then (c .before .before .before .before .before .before .before .before .before .before .before .before .put-flag-line .ensures) (c .before .before .before .before .before .before .before .put-number-line .ensures)) (c .before .before .put-number-line2 .ensures)
+returns c = search puts
 
 pub put-election-spec : {M : Type 1} → statement M
 put-election-spec =

@@ -1,7 +1,7 @@
 -- `put_fields` meets its contract. Assumes nothing.
 use borrow.Author.Needs.{needs}
-use Rattle.text.specs.Puts.{put-then, room-first, room-then}
-use Rattle.printout.specs.Printout.{roleLines, electionLines, statusLines, fieldLines}
+use Rattle.text.specs.Puts.{puts, put-then, room-first, room-then}
+use Rattle.printout.specs.Printout.{fieldLines}
 use Rattle.printout.proofs.put_fields.Statement.{statement}
 use Rattle.printout.proofs.put_fields.Tie as tie
 
@@ -10,23 +10,17 @@ slice-aggregate-put-number-line c = search needs
 
 put-number-line-requires : tie.Need-put-number-line-requires
 unfolding fieldLines
-put-number-line-requires c κs =
-    let start = c .before .before .before in
-    let r = start .args .read in
-    room-first (roleLines r) (room-first (electionLines r) (room-first (statusLines r) (start .pre)))
+put-number-line-requires c κs = search puts
 
 put-role-requires : tie.Need-put-role-requires
 unfolding fieldLines
-put-role-requires c κs =
-    let start = c .before .before .before .before .before .before .before in
-    let r = start .args .read in
-    room-then (c .before .before .before .put-number-line .ensures) (room-first (electionLines r) (room-first (statusLines r) (start .pre)))
+put-role-requires c κs = search puts
 
 put-election-requires : tie.Need-put-election-requires
 unfolding fieldLines
 put-election-requires c κs =
     let start = c .before .before .before .before .before .before .before .before .before .before .before in
-    room-then (put-then (c .before .before .before .before .before .before .before .put-number-line .ensures) (c .before .before .before .put-role .ensures)) (room-first (statusLines (start .args .read)) (start .pre))
+    room-then (put-then (c .before .before .before .before .before .before .before .put-number-line .ensures) (c .before .before .before .put-role .ensures)) (room-first _ (start .pre))
 
 put-status-requires : tie.Need-put-status-requires
 unfolding fieldLines

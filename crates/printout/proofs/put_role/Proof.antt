@@ -1,7 +1,7 @@
 -- `put_role` meets its contract. Assumes nothing.
 use borrow.Author.Needs.{needs}
-use Rattle.text.specs.Puts.{put-then, room-first, room-then}
-use Rattle.printout.specs.Printout.{roleIdWord, numberLine, roleLines}
+use Rattle.text.specs.Puts.{puts}
+use Rattle.printout.specs.Printout.{roleLines}
 use Rattle.printout.proofs.put_role.Statement.{statement}
 use Rattle.printout.proofs.put_role.Tie as tie
 
@@ -10,21 +10,21 @@ slice-aggregate-put-flag-line c = search needs
 
 put-flag-line-requires : tie.Need-put-flag-line-requires
 unfolding roleLines
-put-flag-line-requires c κs = let start = c .before .before .before in room-first (numberLine roleIdWord (start .args .read .id)) (start .pre)
+put-flag-line-requires c κs = search puts
 
 slice-aggregate-put-number-line : tie.Need-slice-aggregate-put-number-line
 slice-aggregate-put-number-line c = search needs
 
 put-number-line-requires : tie.Need-put-number-line-requires
 unfolding roleLines
-put-number-line-requires c κs = room-then (c .before .before .before .before .put-flag-line .ensures) (c .before .before .before .before .before .before .before .before .pre)
+put-number-line-requires c κs = search puts
 
 same-length : tie.Need-same-length
 same-length c = search needs
 
 returns : tie.Need-returns
 unfolding roleLines
-returns c = put-then (c .before .before .before .before .before .before .before .put-flag-line .ensures) (c .before .before .put-number-line .ensures)
+returns c = search puts
 
 pub put-role-spec : {M : Type 1} → statement M
 put-role-spec =

@@ -1,8 +1,7 @@
 -- `put_status` meets its contract. Assumes nothing.
 use borrow.Author.Needs.{needs}
-use Rattle.text.specs.Puts.{put-then, room-first, room-then}
-use Rattle.update.specs.Arbitration.{low32}
-use Rattle.printout.specs.Printout.{codeWord, integerLine, statusLines}
+use Rattle.text.specs.Puts.{puts}
+use Rattle.printout.specs.Printout.{statusLines}
 use Rattle.printout.proofs.put_status.Statement.{statement}
 use Rattle.printout.proofs.put_status.Tie as tie
 
@@ -11,21 +10,21 @@ slice-aggregate-put-flag-line c = search needs
 
 put-flag-line-requires : tie.Need-put-flag-line-requires
 unfolding statusLines
-put-flag-line-requires c κs = let start = c .before .before .before in room-first (integerLine codeWord (low32 (start .args .read .error))) (start .pre)
+put-flag-line-requires c κs = search puts
 
 slice-aggregate-put-integer-line : tie.Need-slice-aggregate-put-integer-line
 slice-aggregate-put-integer-line c = search needs
 
 put-integer-line-requires : tie.Need-put-integer-line-requires
 unfolding statusLines
-put-integer-line-requires c κs = room-then (c .before .before .before .before .put-flag-line .ensures) (c .before .before .before .before .before .before .before .before .pre)
+put-integer-line-requires c κs = search puts
 
 same-length : tie.Need-same-length
 same-length c = search needs
 
 returns : tie.Need-returns
 unfolding statusLines
-returns c = put-then (c .before .before .before .before .before .before .before .put-flag-line .ensures) (c .before .before .put-integer-line .ensures)
+returns c = search puts
 
 pub put-status-spec : {M : Type 1} → statement M
 put-status-spec =

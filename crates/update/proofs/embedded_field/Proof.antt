@@ -2,8 +2,7 @@
 use mathlib.Core.Path.{_∙_}
 use native.Mathlib.Omega.{arith}
 use borrow.Author.Needs.{needs}
-use Rattle.wire.specs.Fields.{asVarint}
-use Rattle.wire.specs.Found.{first-found, with-tag, number-1, number-2}
+use Rattle.wire.specs.Found.{seen-inside, seen-varint}
 use Rattle.update.proofs.embedded_field.Statement.{statement}
 use Rattle.update.proofs.embedded_field.Tie as tie
 
@@ -11,21 +10,13 @@ first-byte-requires : tie.Need-first-byte-requires
 first-byte-requires c κs = search needs
 
 add-read-varint : tie.Need-add-read-varint
-add-read-varint c =
-    let a = c .before .before .before .args in
-    let tag = c .before .first-byte in
-    let found = first-found (a .part .now) (a .at) (tag .result) (tag .ensures) (omega arith) in
-    search needs
+add-read-varint c = let inside = seen-inside _ _ _ (c .before .first-byte .ensures) (omega arith) in search needs
 
 read-varint-requires : tie.Need-read-varint-requires
 read-varint-requires c κs = search needs
 
 add-read-varint-2 : tie.Need-add-read-varint-2
-add-read-varint-2 c =
-    let a = c .before .before .before .args in
-    let tag = c .before .first-byte in
-    let found = first-found (a .part .now) (a .at) (tag .result) (tag .ensures) (omega arith) in
-    search needs
+add-read-varint-2 c = let inside = seen-inside _ _ _ (c .before .first-byte .ensures) (omega arith) in search needs
 
 read-varint-requires-2 : tie.Need-read-varint-requires-2
 read-varint-requires-2 c κs = search needs
@@ -34,16 +25,10 @@ read-field-requires : tie.Need-read-field-requires
 read-field-requires c κs = search needs
 
 returns : tie.Need-returns
-returns c =
-    let a = c .before .before .before .before .args in
-    let tag = c .before .before .first-byte in
-    c .read-varint .ensures ∙ with-tag (a .part .now) (a .at) (tag .result) 8 (asVarint 1) (tag .ensures) (c .before .match .keys1) (omega arith) number-1
+returns c = c .read-varint .ensures ∙ seen-varint _ _ _ (c .before .before .first-byte .ensures) 1 (omega arith) (omega arith) (c .before .match .keys1)
 
 returns-2 : tie.Need-returns-2
-returns-2 c =
-    let a = c .before .before .before .before .args in
-    let tag = c .before .before .first-byte in
-    c .read-varint2 .ensures ∙ with-tag (a .part .now) (a .at) (tag .result) 16 (asVarint 2) (tag .ensures) (c .before .match .keys2) (omega arith) number-2
+returns-2 c = c .read-varint2 .ensures ∙ seen-varint _ _ _ (c .before .before .first-byte .ensures) 2 (omega arith) (omega arith) (c .before .match .keys2)
 
 returns-3 : tie.Need-returns-3
 returns-3 c = search needs

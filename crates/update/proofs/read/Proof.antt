@@ -1,7 +1,5 @@
 -- `read` meets its contract. Assumes nothing.
 use mathlib.Core.Path.{ap, _∙_}
-use mathlib.Core.Path.{ap, _∙_}
-use mathlib.Core.Path.{ap, _∙_}
 use borrow.Author.Needs.{needs}
 use Rattle.update.specs.Arbitration.{low32}
 use Rattle.update.specs.Signed.{shown, shows}

@@ -1,9 +1,5 @@
 -- `read_pair` meets its contract. Assumes nothing.
 use mathlib.Core.Path.{sym, ap, ap₂, _∙_}
-use mathlib.Core.Path.{sym, ap, ap₂, _∙_}
-use mathlib.Core.Path.{sym, ap, ap₂, _∙_}
-use Prim.Native.Nat.{ℕ, _-_}
-use Prim.Native.Nat.{ℕ, _-_}
 use Prim.Native.Nat.{ℕ, _-_}
 use native.Mathlib.Omega.{arith}
 use lib.ListN.{length}
@@ -11,11 +7,8 @@ use borrow.Author.Needs.{needs}
 use Rattle.wire.specs.Messages.{whole}
 use Rattle.wire.specs.Found.{found-field, no-field}
 use Rattle.wire.specs.Walking.{Walking, walking-starts, walking-ends, walking-faults, walking-on}
-use Rattle.update.specs.Raw.{pairOf}
-use Rattle.update.specs.Seeing.{last-scalar}
-use Rattle.wire.specs.Messages.{whole}
 use Rattle.update.specs.Raw.{seeTwo, pairOf}
-use Rattle.wire.specs.Messages.{whole}
+use Rattle.update.specs.Seeing.{last-scalar}
 use Rattle.update.proofs.read_pair.Statement.{statement}
 use Rattle.update.proofs.read_pair.Tie as tie
 
@@ -37,9 +30,8 @@ no-pair-requires c κs = search needs
 returns : tie.Need-returns Inv-loop μ-loop
 returns c =
     let at-loop = c .before .before .before .before .before in
-    let a = at-loop .before .before .args in
     let r = c .before .before .before .embedded-field in
-    let lost = no-field (a .part .now) (at-loop .loop .at) (r .result) (r .ensures) (c .before .if1 .taken) in
+    let lost = no-field _ _ _ (r .ensures) (c .before .if1 .taken) in
     c .no-pair .ensures ∙ ap (λ (code : ℕ). record { code = code; first = 0; second = 0 }) (sym (lost .code)) ∙ ap pairOf (sym (walking-faults _ _ _ (at-loop .loop .inv) (omega arith) (r .result) lost))
 
 last-requires : tie.Need-last-requires Inv-loop μ-loop
@@ -51,19 +43,17 @@ last-requires-2 c κs = search needs
 loop-less : tie.Need-loop-less Inv-loop μ-loop
 loop-less c =
     let at-loop = c .before .before .before .before .before .before in
-    let a = at-loop .before .before .args in
     let r = c .before .before .before .before .embedded-field in
-    let found = found-field (a .part .now) (at-loop .loop .at) (r .result) (r .ensures) (omega arith) in
+    let found = found-field _ _ _ (r .ensures) (omega arith) in
     omega arith
 
 loop-again : tie.Need-loop-again Inv-loop μ-loop
 loop-again c =
     let at-loop = c .before .before .before .before .before .before in
-    let a = at-loop .before .before .args in
     let r = c .before .before .before .before .embedded-field in
-    let found = found-field (a .part .now) (at-loop .loop .at) (r .result) (r .ensures) (omega arith) in
+    let found = found-field _ _ _ (r .ensures) (omega arith) in
     walking-on _ _ _ (at-loop .loop .inv) (omega arith) (r .result) found _
-    (ap₂ (λ (x y : ℕ). whole (record { first = x; second = y })) (sym (c .before .last .ensures ∙ last-scalar (a .part .now) (r .result) 1 _)) (sym (c .last2 .ensures ∙ last-scalar (a .part .now) (r .result) 2 _)))
+    (ap₂ (λ (x y : ℕ). whole (record { first = x; second = y })) (sym (c .before .last .ensures ∙ last-scalar _ (r .result) 1 _)) (sym (c .last2 .ensures ∙ last-scalar _ (r .result) 2 _)))
 
 returns-2 : tie.Need-returns-2 Inv-loop μ-loop
 returns-2 c = ap pairOf (sym (walking-ends _ _ _ (c .before .loop .inv) (omega arith)))

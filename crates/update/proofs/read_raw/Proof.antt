@@ -36,44 +36,39 @@ refused-requires-2 c κs = search needs
 returns : tie.Need-returns Inv-loop μ-loop
 returns c =
     let at-loop = c .before .before .before .before .before in
-    let l = c .before .before .before .before .before .before .before .before .args .message .now in
     let r = c .before .before .before .field-at in
-    let lost = no-field l (at-loop .loop .at) (r .result) (r .ensures) (c .before .if1 .taken) in
-    c .refused2 .ensures ∙ ap refusedRaw (sym (lost .code)) ∙ ap settled (sym (walking-faults _ _ _ (at-loop .loop .inv .0) (omega arith) (r .result) lost)) ∙ sees-message l
+    let lost = no-field _ _ _ (r .ensures) (c .before .if1 .taken) in
+    c .refused2 .ensures ∙ ap refusedRaw (sym (lost .code)) ∙ ap settled (sym (walking-faults _ _ _ (at-loop .loop .inv .0) (omega arith) (r .result) lost)) ∙ sees-message _
 
 take-requires : tie.Need-take-requires Inv-loop μ-loop
 take-requires c κs =
     let at-loop = c .before .before .before .before in
-    let l = c .before .before .before .before .before .before .before .args .message .now in
     let r = c .before .before .field-at in
-    let found = found-field l (at-loop .loop .at) (r .result) (r .ensures) (omega arith) in
+    let found = found-field _ _ _ (r .ensures) (omega arith) in
     (found .ordered, found .inside)
 
 returns-2 : tie.Need-returns-2 Inv-loop μ-loop
 returns-2 c =
     let at-loop = c .before .before .before .before .before .before .before in
-    let l = c .before .before .before .before .before .before .before .before .before .before .args .message .now in
     let r = c .before .before .before .before .before .field-at in
-    let found = found-field l (at-loop .loop .at) (r .result) (r .ensures) (omega arith) in
-    let lost = sees-broken (fieldOf l (r .result)) (at-loop .loop .u) _ (at-loop .loop .inv .1) (c .before .before .take .ensures) (c .if2 .taken) in
-    lost .2 ∙ ap settled (sym (walking-breaks _ _ _ (at-loop .loop .inv .0) (omega arith) (r .result) found (lost .0) (lost .1))) ∙ sees-message l
+    let found = found-field _ _ _ (r .ensures) (omega arith) in
+    let lost = sees-broken (fieldOf _ (r .result)) (at-loop .loop .u) _ (at-loop .loop .inv .1) (c .before .before .take .ensures) (c .if2 .taken) in
+    lost .2 ∙ ap settled (sym (walking-breaks _ _ _ (at-loop .loop .inv .0) (omega arith) (r .result) found (lost .0) (lost .1))) ∙ sees-message _
 
 loop-less : tie.Need-loop-less Inv-loop μ-loop
 loop-less c =
     let at-loop = c .before .before .before .before .before .before .before in
-    let l = c .before .before .before .before .before .before .before .before .before .before .args .message .now in
     let r = c .before .before .before .before .before .field-at in
-    let found = found-field l (at-loop .loop .at) (r .result) (r .ensures) (omega arith) in
+    let found = found-field _ _ _ (r .ensures) (omega arith) in
     omega arith
 
 loop-again : tie.Need-loop-again Inv-loop μ-loop
 loop-again c =
     let at-loop = c .before .before .before .before .before .before .before in
-    let l = c .before .before .before .before .before .before .before .before .before .before .args .message .now in
     let r = c .before .before .before .before .before .field-at in
-    let found = found-field l (at-loop .loop .at) (r .result) (r .ensures) (omega arith) in
+    let found = found-field _ _ _ (r .ensures) (omega arith) in
     let good : c .before .before .take .result .code ≡ 0 = omega arith in
-    (walking-on _ _ _ (at-loop .loop .inv .0) (omega arith) (r .result) found _ (sees-whole (fieldOf l (r .result)) (at-loop .loop .u) _ (at-loop .loop .inv .1) (c .before .before .take .ensures) good), good)
+    (walking-on _ _ _ (at-loop .loop .inv .0) (omega arith) (r .result) found _ (sees-whole (fieldOf _ (r .result)) (at-loop .loop .u) _ (at-loop .loop .inv .1) (c .before .before .take .ensures) good), good)
 
 returns-3 : tie.Need-returns-3 Inv-loop μ-loop
 returns-3 c = ap settled (sym (walking-ends _ _ _ (c .before .loop .inv .0) (omega arith))) ∙ sees-message _

@@ -2,7 +2,6 @@
 use Prim.Native.Nat.{_-_}
 use native.Mathlib.Omega.{arith}
 use borrow.Author.Needs.{needs}
-use Rattle.update.specs.Signed.{bits-below, less-fits, low-positive, low-negative}
 use Rattle.update.specs.Signed.{bitsOf, bits-below, less-fits, low-positive, low-negative}
 use Rattle.update.proofs.signed.Statement.{statement}
 use Rattle.update.proofs.signed.Tie as tie

@@ -2,7 +2,6 @@
 use mathlib.Core.Path.{ap, _∙_}
 use Prim.Native.Nat.{_-_}
 use borrow.Author.Needs.{needs}
-use Rattle.wire.specs.Messages.{message}
 use Rattle.update.specs.Raw.{withDevice}
 use Rattle.update.specs.Seeing.{sees-device, sees-fixed, sees-bytes}
 use Rattle.update.proofs.take.Statement.{statement}
@@ -12,14 +11,10 @@ last-requires : tie.Need-last-requires
 last-requires c κs = search needs
 
 returns : tie.Need-returns
-returns c =
-    let a = c .before .before .before .before .args in
-    ap (withDevice (a .u)) (c .last .ensures) ∙ sees-device (a .message .now) (a .field) (a .u) (c .before .if1 .taken)
+returns c = ap (withDevice (c .before .before .before .before .args .u)) (c .last .ensures) ∙ sees-device _ _ _ (c .before .if1 .taken)
 
 returns-2 : tie.Need-returns-2
-returns-2 c =
-    let a = c .before .before .before .before .before .args in
-    sees-fixed (a .message .now) (a .field) (a .u) (c .before .before .if1 .left) (c .if2 .taken)
+returns-2 c = sees-fixed _ _ _ (c .before .before .if1 .left) (c .if2 .taken)
 
 sub-take-bytes : tie.Need-sub-take-bytes
 sub-take-bytes c = search needs
@@ -34,9 +29,7 @@ take-bytes-requires : tie.Need-take-bytes-requires
 take-bytes-requires c κs = search needs
 
 returns-3 : tie.Need-returns-3
-returns-3 c =
-    let a = c .before .before .before .before .before .before .before .args in
-    c .take-bytes .ensures ∙ sees-bytes (a .message .now) (a .field) (a .u) (c .before .before .before .before .if1 .left) (c .before .before .if2 .left)
+returns-3 c = c .take-bytes .ensures ∙ sees-bytes _ _ _ (c .before .before .before .before .if1 .left) (c .before .before .if2 .left)
 
 pub take-spec : {M : Type 1} → statement M
 take-spec =

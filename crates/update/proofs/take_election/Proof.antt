@@ -1,9 +1,6 @@
 -- `take_election` meets its contract. Assumes nothing.
 use mathlib.Core.Path.{_∙_}
-use mathlib.Core.Path.{_∙_}
 use borrow.Author.Needs.{needs}
-use Rattle.update.specs.Raw.{withElection}
-use Rattle.update.specs.Seeing.{sees-two, loses-two}
 use Rattle.update.specs.Raw.{withElection}
 use Rattle.update.specs.Seeing.{sees-two, loses-two}
 use Rattle.update.proofs.take_election.Statement.{statement}

@@ -1,9 +1,6 @@
 -- `take_role` meets its contract. Assumes nothing.
 use mathlib.Core.Path.{_∙_}
-use mathlib.Core.Path.{_∙_}
 use borrow.Author.Needs.{needs}
-use Rattle.update.specs.Raw.{withRole}
-use Rattle.update.specs.Seeing.{sees-one, loses-one}
 use Rattle.update.specs.Raw.{withRole}
 use Rattle.update.specs.Seeing.{sees-one, loses-one}
 use Rattle.update.proofs.take_role.Statement.{statement}

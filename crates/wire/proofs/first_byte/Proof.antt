@@ -2,7 +2,6 @@
 use native.Mathlib.Omega.{arith}
 use borrow.Author.Needs.{needs}
 use borrow.Author.Tests.{lt-ltb, le-ltb}
-use Rattle.wire.specs.Numbers.{taken}
 use Rattle.wire.specs.Places.{firstByte}
 use Rattle.wire.proofs.first_byte.Statement.{statement}
 use Rattle.wire.proofs.first_byte.Tie as tie

@@ -3,7 +3,6 @@ use Prim.Native.Nat.{_-_}
 use lib.Bits.{and-mask}
 use borrow.Author.Needs.{needs}
 use borrow.Author.Tests.{lt-leb, le-leb}
-use Rattle.wire.specs.Numbers.{taken}
 use Rattle.wire.specs.Fields.{tagged}
 use Rattle.wire.proofs.read_tagged.Statement.{statement}
 use Rattle.wire.proofs.read_tagged.Tie as tie
@@ -27,9 +26,7 @@ read-content-requires c κs = search needs
 
 returns-3 : tie.Need-returns-3
 unfolding tagged
-returns-3 c =
-    let a = c .before .before .before .before .args in
-    simp (le-leb _ _ (c .before .before .if1 .left), le-leb _ _ (c .before .if2 .left)) (rw (and-mask (a .tag) 3) at (c .read-content .ensures))
+returns-3 c = simp (le-leb _ _ (c .before .before .if1 .left), le-leb _ _ (c .before .if2 .left)) (rw (and-mask _ 3) at (c .read-content .ensures))
 
 pub read-tagged-spec : {M : Type 1} → statement M
 read-tagged-spec =

@@ -16,17 +16,13 @@ add-t8 : tie.Need-add-t8
 add-t8 c = search needs
 
 returns : tie.Need-returns
-returns c =
-    let a = c .before .before .args in
-    fixed-field (a .message .now) (a .at) (a .number) (a .size) (c .before .before .pre) (omega arith)
+returns c = fixed-field _ _ _ (c .before .before .pre) (omega arith) _
 
 no-field-requires : tie.Need-no-field-requires
 no-field-requires c κs = search needs
 
 returns-2 : tie.Need-returns-2
-returns-2 c =
-    let a = c .before .before .before .args in
-    c .no-field .ensures ∙ part-short (a .message .now) (a .at) (a .number) (a .size) (c .before .before .before .pre) (omega arith) (λ held rest. taken (fixed (a .number)) rest)
+returns-2 c = c .no-field .ensures ∙ part-short _ _ _ (c .before .before .before .pre) (omega arith) (λ held rest. taken (fixed _) rest)
 
 pub skip-fixed-spec : {M : Type 1} → statement M
 skip-fixed-spec = tie.close (tie.spec sub-if1 add-t8 returns no-field-requires returns-2)
