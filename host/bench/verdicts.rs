@@ -18,9 +18,11 @@ pub fn measure_all(rounds: usize) {
         "two merges", "records", "result", "library", "judge", "ratio", "stack bytes"
     );
     let half = MOST_RECORDS / 2;
-    let learn = |node| vec![(3, node); half];
-    let worst = ([learn(1), learn(2)].concat(), [learn(2), learn(1)].concat());
-    measure("longest walks", &worst.0, &worst.1, rounds);
+    for (name, moved) in [("half moved past half", half), ("one moved past all", 1)] {
+        let (most, few) = (vec![(3, 1); MOST_RECORDS - moved], vec![(3, 2); moved]);
+        let (behind, ahead) = ([&most[..], &few].concat(), [&few[..], &most].concat());
+        measure(name, &behind, &ahead, rounds);
+    }
     let mut history = [0; HISTORY_BYTES];
     let mut walk = Walk::new(8, &mut history);
     walk.wander(&mut random, &Habits::LIFE_CYCLE, MOST_RECORDS);
@@ -34,6 +36,10 @@ pub fn measure_all(rounds: usize) {
     let mut moved = even.clone();
     pairs::exchange(&mut random, 8, &mut moved, 30 * MOST_RECORDS);
     measure("random kinds, many moved", &even, &moved, rounds);
+    let mixed: Vec<Step> = (0..MOST_RECORDS).map(|_| random.pick(&[(3, 1), (3, 2)])).collect();
+    let mut apart = mixed.clone();
+    apart.sort();
+    measure("two nodes apart, mixed", &apart, &mixed, rounds);
 }
 
 fn measure(name: &str, first: &[Step], second: &[Step], rounds: usize) {
