@@ -117,7 +117,12 @@ returns-2 c =
     ∙ walk-blocked (x .one .nodes) (recordAt (x .first .now)) (recordAt (x .second .now)) (x .one .count) (x .other .count) (d .before .before .before .before .before .before .loop .inv) (few (d .before .before .before .before .before .before)) (start .pre .4) (x .letters .now) (are (d .before .before .before .before .before .before)) (d .before .before .before .before .if1 .taken) (letter-of d) (d .next-stop .ensures) (inside d (c .before .before .before .before .before .before .if2 .left)) (same (c .before .before .before) ∙ not-true _ (c .before .before .if3 .taken))
 
 take-requires : tie.Need-take-requires Inv-loop μ-loop
-take-requires c κs = (c .before .before .before .before .before .before .before .next-stop .ensures .low, let z = c .before .before .before .before .before .before .before .before .before .before .before .before .before .loop .inv .placed .size in let h = inside (c .before .before .before .before .before .before .before) (c .before .before .before .before .before .if2 .left) in omega arith)
+take-requires c κs =
+    let d = c .before .before .before .before .before .before .before in
+    let l = d .next-stop .ensures .low in
+    let h = inside d (c .before .before .before .before .before .if2 .left) in
+    let z = d .before .before .before .before .before .before .loop .inv .placed .size in
+    (omega arith, omega arith)
 
 add-j : tie.Need-add-j Inv-loop μ-loop
 add-j c = search needs
