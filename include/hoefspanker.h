@@ -168,7 +168,7 @@ uint32_t hoefspanker_read_arbitration(const uint8_t *message, size_t message_len
  * list's 8 to 11; 12 where `places_len` is below 8; the second list's, 24 to 27;
  * 28 where the node counts differ. Of several the lowest.
  *
- * The call takes about 70 KB of stack. */
+ * The call takes about 135 KB of stack. */
 uint32_t hoefspanker_same_merge(const uint8_t *first, size_t first_len,
                                 const uint8_t *second, size_t second_len,
                                 uint8_t *places, size_t places_len);

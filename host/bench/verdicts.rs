@@ -7,7 +7,7 @@ use reference::limits::{HISTORY_BYTES, MOST_RECORDS};
 
 use crate::{stack, turns};
 
-/// The longest takes a fifth of a second.
+/// The longest takes a fifth of a second and more.
 const MOST_ROUNDS: usize = 10;
 
 pub fn measure_all(rounds: usize) {
@@ -17,10 +17,7 @@ pub fn measure_all(rounds: usize) {
         "\n{:26}{:>8}{:>7}{:>15}{:>15}{:>7}{:>13}",
         "two merges", "records", "result", "library", "judge", "ratio", "stack bytes"
     );
-    let half = MOST_RECORDS / 2;
-    let learn = |node| vec![(3, node); half];
-    let worst = ([learn(1), learn(2)].concat(), [learn(2), learn(1)].concat());
-    measure("longest walks", &worst.0, &worst.1, rounds);
+    measure_far_moves(rounds);
     let mut history = [0; HISTORY_BYTES];
     let mut walk = Walk::new(8, &mut history);
     walk.wander(&mut random, &Habits::LIFE_CYCLE, MOST_RECORDS);
@@ -34,6 +31,24 @@ pub fn measure_all(rounds: usize) {
     let mut moved = even.clone();
     pairs::exchange(&mut random, 8, &mut moved, 30 * MOST_RECORDS);
     measure("random kinds, many moved", &even, &moved, rounds);
+    let mixed: Vec<Step> = (0..MOST_RECORDS).map(|_| random.pick(&[(3, 1), (3, 2)])).collect();
+    let mut apart = mixed.clone();
+    apart.sort();
+    measure("two nodes apart, mixed", &apart, &mixed, rounds);
+}
+
+/// Records that may all pass one another, in long rows. No more than nine steps are
+/// that independent, so the last pair has the most exchanges that there are.
+fn measure_far_moves(rounds: usize) {
+    for (name, moved) in [("half moved past half", MOST_RECORDS / 2), ("one moved past all", 1)] {
+        let (most, few) = (vec![(3, 1); MOST_RECORDS - moved], vec![(3, 2); moved]);
+        let (behind, ahead) = ([&most[..], &few].concat(), [&few[..], &most].concat());
+        measure(name, &behind, &ahead, rounds);
+    }
+    let nine: Vec<Step> = (1..=8).map(|node| (3, node)).chain([(8, 1)]).collect();
+    let rows: Vec<Step> = (0..MOST_RECORDS).map(|at| nine[at * 9 / MOST_RECORDS]).collect();
+    let turned: Vec<Step> = rows.iter().rev().copied().collect();
+    measure("nine rows turned round", &rows, &turned, rounds);
 }
 
 fn measure(name: &str, first: &[Step], second: &[Step], rounds: usize) {

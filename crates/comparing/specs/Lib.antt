@@ -1,7 +1,8 @@
 pub mod Compare
-pub mod Left
-pub mod Marks
+pub mod Row
 pub mod Filling
+pub mod Taking
+pub mod Left
 pub mod Obstacles
 pub mod Walk
 pub mod Compared

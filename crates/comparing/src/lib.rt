@@ -1,15 +1,16 @@
-// Comparing two merges of the same logs: the records of the first list are taken, in turn, out of the second, each past those that are independent of it. A
-// record that is taken has its letter marked as out of the way, so nothing moves.
+// Comparing two merges of the same logs: the records of the first list are taken, in turn, out of the second, each past those that are independent of it. The
+// places of the second list's records stand in a row; where one is taken, those before it that are left move up.
 ghost use mathlib.Core.Path.{_≡_};
 ghost use Prim.Native.Nat.{_+_, _≤_, _<_};
-ghost use lib.ListN.{length};
+ghost use lib.ListN.{length, getD};
 ghost use Rattle.lists.specs.EventList.{recordAt, recordCount};
 ghost use Rattle.lists.specs.Reads.{eventOf};
 ghost use Rattle.runner.specs.Running.{Trails};
 ghost use Rattle.verdict.specs.Verdict.{sameEvent};
 ghost use Rattle.letters.specs.Letters.{tableSize, TableFor};
-ghost use Rattle.comparing.specs.Marks.{isLeft, isStop, isThere};
+ghost use Rattle.places.specs.Places.{from};
 ghost use Rattle.places.specs.Seek.{Sought};
+ghost use Rattle.comparing.specs.Row.{Placed, Moved, isStop, isThere};
 ghost use Rattle.comparing.specs.Compare.{onlyFirst, onlySecond};
 ghost use Rattle.comparing.specs.Compared.{refused, comparison, compared};
 ghost use Rattle.comparing.specs.Filling.{Lettered};
@@ -44,32 +45,18 @@ pub struct Finding {
     pub s: u32,
 }
 
-// ---- searches, each for the first place from a start on; the end where there is none
-
-// A record that is not taken.
-fn next_left(letters: &[u8], start: usize) -> usize
-    requires { ⌜ start ≤ length (now letters) ⌝ }
-    ensures { λ r. ⌜ Sought (isLeft (now (letters .entry))) start (length (now (letters .entry))) r ⌝ }
-{
-    let mut i = start;
-    while i < letters.len() {
-        if letters[i] != letters::GONE {
-            return i;
-        }
-        i += 1;
-    }
-    i
-}
+// ---- searches, each for the first from a start on; the end where there is none
 
 // A record that a step with this letter may not pass.
-fn next_stop(letters: &[u8], table: &[u8], letter: u8, start: usize) -> usize
-    requires { ⌜ (length (now table) ≡ tableSize) × (letter < 126) × (start ≤ length (now letters)) ⌝ }
-    ensures { λ r. ⌜ Sought (isStop (now (letters .entry)) (now (table .entry)) letter) start (length (now (letters .entry))) r ⌝ }
+fn next_stop(letters: &[u8], places: &[u16], table: &[u8], letter: u8, start: usize) -> usize
+    requires { ⌜ (length (now table) ≡ tableSize) × (letter < 126) × Placed (now places) (length (now letters)) × (start ≤ length (now places)) ⌝ }
+    ensures { λ r. ⌜ Sought (isStop (now (letters .entry)) (now (table .entry)) letter (now (places .entry))) start (length (now (places .entry))) r ⌝ }
 {
     let row = 256 * (letter as usize);
     let mut i = start;
-    while i < letters.len() {
-        if table[row + letters[i] as usize] != 1 {
+    while i < places.len() {
+        let place = places[i] as usize;
+        if table[row + letters[place] as usize] != 1 {
             return i;
         }
         i += 1;
@@ -83,15 +70,15 @@ fn alike(a: Record, b: Record) -> bool
     (a.kind == b.kind) & (a.node == b.node)
 }
 
-// This record, among those of the second list that are not taken.
-fn find_left(letters: &[u8], second: &[u8], trailer: Trailer, event: Record) -> usize
-    requires { ⌜ Trails (now second) trailer × (length (now letters) ≡ trailer .count) ⌝ }
-    ensures { λ r. ⌜ Sought (isThere (now (letters .entry)) (now (second .entry)) (eventOf event)) 0 (trailer .count) r ⌝ }
+// This record, in the row of the second list's places.
+fn find_left(places: &[u16], second: &[u8], trailer: Trailer, start: usize, event: Record) -> usize
+    requires { ⌜ Trails (now second) trailer × Placed (now places) (trailer .count) × (start ≤ trailer .count) ⌝ }
+    ensures { λ r. ⌜ Sought (isThere (now (second .entry)) (eventOf event) (now (places .entry))) start (length (now (places .entry))) r ⌝ }
 {
-    let mut i: usize = 0;
-    while i < trailer.count {
-        let alike = alike(event, lists::read_record(second, trailer.first, i));
-        if (letters[i] != letters::GONE) & alike {
+    let mut i = start;
+    while i < places.len() {
+        let place = places[i] as usize;
+        if alike(event, lists::read_record(second, trailer.first, place)) {
             return i;
         }
         i += 1;
@@ -127,6 +114,32 @@ fn fill_letters(second: &[u8], trailer: Trailer, letters: &mut [u8])
     }
 }
 
+// ---- the row of places
+
+// All places, in turn.
+fn fill_places(places: &mut [u16])
+    requires { ⌜ length (now places) < 65536 ⌝ }
+    ensures { λ _. ⌜ now (places .exit) ≡ from 0 (length (now (places .entry))) ⌝ }
+{
+    let mut i: usize = 0;
+    while i < places.len() {
+        places[i] = i as u16;
+        i += 1;
+    }
+}
+
+// Takes out what stands at `at`: what stands before it, from `start` on, moves up.
+fn take(places: &mut [u16], start: usize, at: usize)
+    requires { ⌜ (start ≤ at) × (at < length (now places)) ⌝ }
+    ensures { λ _. ⌜ Moved start at (now (places .entry)) (now (places .exit)) ⌝ }
+{
+    let mut i = at;
+    while start < i {
+        places[i] = places[i - 1];
+        i -= 1;
+    }
+}
+
 // ---- the comparison
 
 fn only_first(a: usize) -> Finding
@@ -155,39 +168,41 @@ fn only_second(b: usize) -> Finding
     }
 }
 
-// Record a of the first list may not pass record b of the second.
+// Record a of the first list may not pass the record whose place stands at b. From a on, the row has what is left.
 fn hindrance(
     first: &[u8],
     one: Trailer,
     second: &[u8],
     other: Trailer,
-    letters: &[u8],
+    places: &[u16],
     a: usize,
     b: usize,
 ) -> Finding
-    requires { ⌜ Trails (now first) one × Trails (now second) other × (length (now letters) ≡ other .count) × (a < one .count) × (b < other .count) ⌝ }
-    ensures { λ r. ⌜ r ≡ hindrance (one .nodes) (recordAt (now (first .entry))) (recordAt (now (second .entry))) (one .count) (other .count) (now (letters .entry)) a b ⌝ }
+    requires { ⌜ Trails (now first) one × Trails (now second) other × Placed (now places) (other .count) × (a < one .count) × (a ≤ b) × (b < other .count) ⌝ }
+    ensures { λ r. ⌜ r ≡ hindrance (one .nodes) (recordAt (now (first .entry))) (recordAt (now (second .entry))) (one .count) (now (places .entry)) a (getD (now (places .entry)) b 0) ⌝ }
 {
     let found = find_left(
-        letters,
+        places,
         second,
         other,
+        a,
         lists::read_record(first, one.first, a),
     );
     if found == other.count {
         return only_first(a);
     }
-    let blocking = lists::read_record(second, other.first, b);
+    let place = places[b] as usize;
+    let blocking = lists::read_record(second, other.first, place);
     let behind = find_record(first, one, a + 1, blocking);
     if behind == one.count {
-        return only_second(b);
+        return only_second(place);
     }
     Finding {
         verdict: ORDER,
         p: a as u32 + 1,
         q: behind as u32 + 1,
-        r: found as u32 + 1,
-        s: b as u32 + 1,
+        r: places[found] as u32 + 1,
+        s: place as u32 + 1,
     }
 }
 
@@ -197,32 +212,31 @@ fn walk(
     one: Trailer,
     second: &[u8],
     other: Trailer,
-    letters: &mut [u8],
+    letters: &[u8],
+    places: &mut [u16],
     table: &[u8],
 ) -> Finding
-    requires { ⌜ Trails (now first) one × Trails (now second) other × Lettered (now second) (now letters) (recordCount (now second)) × TableFor (one .nodes) (now table) ⌝ }
+    requires { ⌜ Trails (now first) one × Trails (now second) other × Lettered (now second) (now letters) (recordCount (now second)) × (now places ≡ from 0 (other .count)) × TableFor (one .nodes) (now table) ⌝ }
     ensures { λ r. ⌜ r ≡ whole (one .nodes) (recordAt (now (first .entry))) (recordAt (now (second .entry))) (one .count) (other .count) ⌝ }
 {
-    let mut start: usize = 0;
     let mut j: usize = 0;
     while j < one.count {
         let event = lists::read_record(first, one.first, j);
-        start = next_left(letters, start);
         let letter = letters::letter(event.kind, event.node);
-        let at = next_stop(letters, table, letter, start);
+        let at = next_stop(letters, places, table, letter, j);
         if at == other.count {
             return only_first(j);
         }
-        let met = lists::read_record(second, other.first, at);
+        let place = places[at] as usize;
+        let met = lists::read_record(second, other.first, place);
         if !alike(event, met) {
-            return hindrance(first, one, second, other, letters, j, at);
+            return hindrance(first, one, second, other, places, j, at);
         }
-        letters[at] = letters::GONE;
+        take(places, j, at);
         j += 1;
     }
-    let at = next_left(letters, start);
-    if at < other.count {
-        return only_second(at);
+    if j < other.count {
+        return only_second(places[j] as usize);
     }
     Finding {
         verdict: SAME,
@@ -233,20 +247,22 @@ fn walk(
     }
 }
 
-// The same, of letters that are yet to be put down.
+// The same, of letters and places that are yet to be put down.
 fn walk_letters(
     first: &[u8],
     one: Trailer,
     second: &[u8],
     other: Trailer,
     letters: &mut [u8],
+    places: &mut [u16],
     table: &[u8],
 ) -> Finding
-    requires { ⌜ Trails (now first) one × Trails (now second) other × (length (now letters) ≡ other .count) × TableFor (one .nodes) (now table) ⌝ }
+    requires { ⌜ Trails (now first) one × Trails (now second) other × (length (now letters) ≡ other .count) × (length (now places) ≡ other .count) × TableFor (one .nodes) (now table) ⌝ }
     ensures { λ r. ⌜ r ≡ whole (one .nodes) (recordAt (now (first .entry))) (recordAt (now (second .entry))) (one .count) (other .count) ⌝ }
 {
     fill_letters(second, other, letters);
-    walk(first, one, second, other, letters, table)
+    fill_places(places);
+    walk(first, one, second, other, letters, places, table)
 }
 
 // Two lists that are not refused.
@@ -257,8 +273,17 @@ fn compare_good(first: &[u8], one: Trailer, second: &[u8], other: Trailer) -> Fi
     let mut table = [0u8; letters::TABLE_SIZE];
     letters::fill_table(one.nodes, &mut table);
     let mut letters = [0u8; MOST_RECORDS];
+    let mut places = [0u16; MOST_RECORDS];
     let count = other.count;
-    walk_letters(first, one, second, other, &mut letters[..count], &table)
+    walk_letters(
+        first,
+        one,
+        second,
+        other,
+        &mut letters[..count],
+        &mut places[..count],
+        &table,
+    )
 }
 
 fn refused(code: u32) -> Finding

@@ -1,6 +1,6 @@
 -- Steps as letters, and the table of letters that may pass one another.
 use mathlib.Core.Path.{_≡_}
-use mathlib.Core.Bool.{Bool, true, false, cond, _&&_, _||_}
+use mathlib.Core.Bool.{Bool, true, false, cond, _&&_}
 use mathlib.Core.List.{List}
 use Prim.Native.Nat.{ℕ, _+_, _*_, _/_, _%_, _<_}
 use lib.Dec.{eqb, ltb}
@@ -16,12 +16,8 @@ letterOf e = cond (ltb (e .kind) 14 && ltb (e .node) 9) (9 * e .kind + e .node) 
 abbrev pub stepFor : ℕ → Event
 stepFor a = record { kind = a / 9; node = a % 9 }
 
--- The letter of a step that is out of the way: every other may pass it.
-abbrev pub gone : ℕ
-gone = 255
-
 unfoldable pub mayPass : ℕ → ℕ → ℕ → Bool
-mayPass count a b = eqb b gone || independent count (stepFor a) (stepFor b)
+mayPass count a b = independent count (stepFor a) (stepFor b)
 
 -- ---- the table: 128 rows of 256, the row of a letter has 1 for each letter that it may pass
 

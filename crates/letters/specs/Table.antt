@@ -1,6 +1,6 @@
 -- What the table says of the letters of two steps is whether they are independent. Assumes nothing.
 use mathlib.Core.Path.{_≡_, refl, sym, ap, ap₂, _∙_}
-use mathlib.Core.Bool.{Bool, true, false, _||_}
+use mathlib.Core.Bool.{Bool, true, false}
 use mathlib.Core.List.{List}
 use Prim.Native.Nat.{ℕ, _+_, _*_, _/_, _%_, _≤_, _<_}
 use native.Mathlib.Omega.{arith}
@@ -8,10 +8,9 @@ use native.Mathlib.Decide.{decLt}
 use lib.Dec.{eqb}
 use lib.ListN.{length, set, getD, length-set}
 use lib.Seq.{getD-set-same, getD-set-other}
-use borrow.Author.Tests.{ne-eqb}
 use Rattle.rules.specs.Step.{Event}
 use Rattle.merges.specs.Independent.{independent}
-use Rattle.letters.specs.Letters.{letterOf, stepFor, gone, mayPass, tableSize, bit, TableFor, passes}
+use Rattle.letters.specs.Letters.{letterOf, mayPass, tableSize, bit, TableFor, passes}
 use Rattle.letters.specs.Known.{letter-small, by-letters}
 
 bit-one : (b : Bool) → eqb (bit b) 1 ≡ b
@@ -25,19 +24,12 @@ module _ {count : ℕ} {t : List ℕ} (for : TableFor count t) where
       let q : (256 * a + b) % 256 ≡ b = omega arith in
       ap (λ (x : ℕ). eqb x 1) (for .entries (256 * a + b) (omega arith) ∙ ap₂ (λ (x y : ℕ). bit (mayPass count x y)) p q) ∙ bit-one (mayPass count a b)
 
-  -- Every letter may pass a step that is out of the way.
-  pub passes-gone : (a : ℕ) → a < 128 → passes t a gone ≡ true
-  unfolding mayPass
-  passes-gone a h = table-says a gone h (omega arith)
-
   pub passes-free : count ≤ 8 → (e f : Event) → passes t (letterOf e) (letterOf f) ≡ independent count e f
   unfolding mayPass
   passes-free few e f =
       let a = letter-small e in
       let b = letter-small f in
-      table-says (letterOf e) (letterOf f) (omega arith) (omega arith)
-      ∙ ap (λ (x : Bool). x || independent count (stepFor (letterOf e)) (stepFor (letterOf f))) (ne-eqb (letterOf f) gone (λ i. omega arith))
-      ∙ by-letters count few e f
+      table-says (letterOf e) (letterOf f) (omega arith) (omega arith) ∙ by-letters count few e f
 
 -- ---- the table while it is filled
 

@@ -8,9 +8,6 @@ ghost use Rattle.letters.specs.Letters.{tableSize, letterOf, mayPass, bi
 // How long the table is.
 pub const TABLE_SIZE: usize = 32768;
 
-// The letter of a step that is out of the way: every other may pass it.
-pub const GONE: u8 = 255;
-
 // The letter of a step; 0 for one of no kind or node that there is.
 pub fn letter(kind: u8, node: u8) -> u8
     ensures { λ r. ⌜ r ≡ letterOf (event kind node) ⌝ }
@@ -37,7 +34,7 @@ fn entry(nodes: u8, at: usize) -> u8
         (b / 9) as u8,
         (b % 9) as u8,
     );
-    if (b == 255) | free {
+    if free {
         return 1;
     }
     0

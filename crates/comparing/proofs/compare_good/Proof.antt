@@ -1,13 +1,17 @@
 -- `compare_good` meets its contract. Assumes nothing.
-use mathlib.Core.Path.{sym, _∙_}
+use mathlib.Core.Path.{_≡_, sym, _∙_}
 use Prim.Native.Nat.{ℕ}
-use native.Mathlib.Omega.{arith}
-use lib.ListN.{length-replicate}
+use lib.ListN.{length, take, replicate, length-replicate}
 use lib.Seq.{length-take-le}
 use Rattle.comparing.specs.Refusing.{whole-comparison}
 use borrow.Author.Needs.{needs}
+use native.Mathlib.Omega.{arith}
 use Rattle.comparing.proofs.compare_good.Statement.{statement}
 use Rattle.comparing.proofs.compare_good.Tie as tie
+
+-- there is room for every record
+room : (c : tie.Start) → length (take (c .args .other .count) (replicate {A = ℕ} 32762 0)) ≡ c .args .other .count
+room c = length-take-le _ _ (let n = length-replicate {A = ℕ} 32762 0 in let t = c .pre .1 in let u = t .good in omega arith)
 
 slice-aggregate-fill-table : tie.Need-slice-aggregate-fill-table
 slice-aggregate-fill-table c = search needs
@@ -19,21 +23,22 @@ array-borrow-prefix-letters : tie.Need-array-borrow-prefix-letters
 array-borrow-prefix-letters c = search needs
 
 slice-aggregate-walk-letters : tie.Need-slice-aggregate-walk-letters
-slice-aggregate-walk-letters c = sym (length-take-le _ _ (let n = length-replicate {A = ℕ} 32762 0 in let t = c .before .before .before .before .before .before .pre .1 in let u = t .good in omega arith))
+slice-aggregate-walk-letters c = sym (room (c .before .before .before .before .before .before))
+
+array-borrow-prefix-places : tie.Need-array-borrow-prefix-places
+array-borrow-prefix-places c = search needs
 
 slice-aggregate-walk-letters-2 : tie.Need-slice-aggregate-walk-letters-2
-slice-aggregate-walk-letters-2 c = search needs
+slice-aggregate-walk-letters-2 c = sym (room (c .before .before .before .before .before .before .before))
+
+slice-aggregate-walk-letters-3 : tie.Need-slice-aggregate-walk-letters-3
+slice-aggregate-walk-letters-3 c = search needs
 
 walk-letters-requires : tie.Need-walk-letters-requires
-walk-letters-requires c κs =
-    let start = c .before .before .before .before .before .before .before in
-    let n = length-replicate {A = ℕ} 32762 0 in
-    let t = start .pre .1 in
-    let u = t .good in
-    (start .pre .0, t, length-take-le _ _ (omega arith), c .before .before .before .fill-table .ensures)
+walk-letters-requires c κs = let start = c .before .before .before .before .before .before .before .before in (start .pre .0, start .pre .1, room start, room start, c .before .before .before .before .fill-table .ensures)
 
 returns : tie.Need-returns
-returns c = let start = c .before .before .before .before .before .before .before .before .before in c .before .walk-letters .ensures ∙ whole-comparison (start .pre .0) (start .pre .1)
+returns c = let start = c .before .before .before .before .before .before .before .before .before .before .before in c .before .before .walk-letters .ensures ∙ whole-comparison (start .pre .0) (start .pre .1)
 
 pub compare-good-spec : {M : Type 1} → statement M
 compare-good-spec =
@@ -43,6 +48,8 @@ compare-good-spec =
     fill-table-requires
     array-borrow-prefix-letters
     slice-aggregate-walk-letters
+    array-borrow-prefix-places
     slice-aggregate-walk-letters-2
+    slice-aggregate-walk-letters-3
     walk-letters-requires
     returns)

@@ -2,15 +2,29 @@
 use mathlib.Core.Path.{_∙_}
 use mathlib.Core.Logic.{_≢_}
 use Prim.Native.Nat.{ℕ, _≤_, _<_}
-use native.Mathlib.Omega.{arith}
+use lib.ListN.{length, getD}
 use Rattle.lists.specs.EventList.{recordAt}
 use Rattle.comparing.specs.Obstacles.{no-second, no-first, crossed}
 use borrow.Author.Needs.{needs}
+use native.Mathlib.Omega.{arith}
 use Rattle.comparing.proofs.hindrance.Statement.{statement}
 use Rattle.comparing.proofs.hindrance.Tie as tie
 
 below : {a b : ℕ} → a ≤ b → a ≢ b → a < b
 below h d = omega arith
+
+row : (c : tie.Start) → c .args .a ≤ length (c .args .places .now)
+row c = let z = c .pre .2 .size in let l = c .pre .4 in let h = c .pre .5 in omega arith
+
+small : (c : tie.Start) (q : ℕ) → q < c .args .other .count → getD (c .args .places .now) q 0 < 32768
+small c q h = let k = c .pre .2 .inside q h in let t = c .pre .1 in let u = t .good in omega arith
+
+-- record a is found
+left : (c : tie.After-find-left) → c .find-left .result ≢ c .before .before .before .before .before .args .other .count → c .find-left .result < length (c .before .before .before .before .before .args .places .now)
+left c d = let h = c .find-left .ensures .high in let z = c .before .before .before .before .before .pre .2 .size in omega arith
+
+found-small : (c : tie.After-find-left) → c .find-left .result ≢ c .before .before .before .before .before .args .other .count → getD (c .before .before .before .before .before .args .places .now) (c .find-left .result) 0 < 32768
+found-small c d = small (c .before .before .before .before .before) _ (let h = left c d in let z = c .before .before .before .before .before .pre .2 .size in omega arith)
 
 read-record-requires : tie.Need-read-record-requires
 read-record-requires c κs = search needs
@@ -26,10 +40,20 @@ returns c =
     let found = c .before .before .before in
     let start = found .before .before .before .before .before in
     let x = start .args in
-    c .only-first .ensures ∙ no-second (x .one .nodes) (recordAt (x .first .now)) (recordAt (x .second .now)) (x .one .count) (x .other .count) (x .letters .now) (x .a) (x .b) (start .pre .3) (found .before .read-record .ensures) (found .find-left .ensures) (omega arith)
+    let z = start .pre .2 .size in
+    c .only-first .ensures ∙ no-second (x .one .nodes) (recordAt (x .first .now)) (recordAt (x .second .now)) (x .one .count) (x .places .now) (x .a) (getD (x .places .now) (x .b) 0) (start .pre .3) (row start) (found .before .read-record .ensures) (found .find-left .ensures) (omega arith)
+
+mul-place : tie.Need-mul-place
+mul-place c = search needs
+
+shared-slice-read-place : tie.Need-shared-slice-read-place
+shared-slice-read-place c = search needs
+
+cast-place : tie.Need-cast-place
+cast-place c = let h = small (c .before .before .before .before .before .before .before .before) _ (c .before .before .before .before .before .before .before .before .pre .5) in omega arith
 
 read-record-requires-2 : tie.Need-read-record-requires-2
-read-record-requires-2 c κs = search needs
+read-record-requires-2 c κs = let h = c .before .before .before .before .before .before .before .before .pre .2 .inside _ (c .before .before .before .before .before .before .before .before .pre .5) in search needs
 
 add-find-record : tie.Need-add-find-record
 add-find-record c = search needs
@@ -38,50 +62,56 @@ find-record-requires : tie.Need-find-record-requires
 find-record-requires c κs = search needs
 
 only-second-requires : tie.Need-only-second-requires
-only-second-requires c κs = search needs
+only-second-requires c κs = small (c .before .before .before .before .before .before .before .before .before .before .before .before) _ (c .before .before .before .before .before .before .before .before .before .before .before .before .pre .5)
 
 returns-2 : tie.Need-returns-2
 returns-2 c =
     let behind = c .before .before .before in
-    let found = behind .before .before .before .before in
+    let found = behind .before .before .before .before .before in
     let start = found .before .before .before .before .before in
     let x = start .args in
     c .only-second .ensures
-    ∙ no-first (x .one .nodes) (recordAt (x .first .now)) (recordAt (x .second .now)) (x .one .count) (x .other .count) (x .letters .now) (x .a) (x .b) (start .pre .3) (found .before .read-record .ensures) (found .find-left .ensures) (below (found .find-left .ensures .high) (behind .before .before .if1 .left))
+    ∙ no-first (x .one .nodes) (recordAt (x .first .now)) (recordAt (x .second .now)) (x .one .count) (x .places .now) (x .a) (getD (x .places .now) (x .b) 0) (start .pre .3) (row start) (found .before .read-record .ensures) (found .find-left .ensures) (left found (behind .before .before .before .if1 .left))
     (behind .before .read-record2 .ensures) (behind .find-record .ensures) (omega arith)
 
-cast-t14 : tie.Need-cast-t14
-cast-t14 c = search needs
+cast-t17 : tie.Need-cast-t17
+cast-t17 c = search needs
 
-add-t15 : tie.Need-add-t15
-add-t15 c = search needs
+add-t18 : tie.Need-add-t18
+add-t18 c = search needs
 
-cast-t16 : tie.Need-cast-t16
-cast-t16 c = search needs
+cast-t19 : tie.Need-cast-t19
+cast-t19 c = search needs
 
-add-t17 : tie.Need-add-t17
-add-t17 c = search needs
+add-t20 : tie.Need-add-t20
+add-t20 c = search needs
 
-cast-t18 : tie.Need-cast-t18
-cast-t18 c = search needs
+mul-t14 : tie.Need-mul-t14
+mul-t14 c = search needs
 
-add-t19 : tie.Need-add-t19
-add-t19 c = search needs
+shared-slice-read-t16 : tie.Need-shared-slice-read-t16
+shared-slice-read-t16 c = search needs
 
-cast-t20 : tie.Need-cast-t20
-cast-t20 c = search needs
+cast-t22 : tie.Need-cast-t22
+cast-t22 c = let h = found-small (c .before .before .before .before .before .before .before .before) (c .before .before .before .before .before .before .if1 .left) in omega arith
 
-add-t21 : tie.Need-add-t21
-add-t21 c = search needs
+add-t23 : tie.Need-add-t23
+add-t23 c = let h = found-small (c .before .before .before .before .before .before .before .before) (c .before .before .before .before .before .before .if1 .left) in omega arith
+
+cast-t24 : tie.Need-cast-t24
+cast-t24 c = let h = small (c .before .before .before .before .before .before .before .before .before .before .before .before .before) _ (c .before .before .before .before .before .before .before .before .before .before .before .before .before .pre .5) in omega arith
+
+add-t25 : tie.Need-add-t25
+add-t25 c = let h = small (c .before .before .before .before .before .before .before .before .before .before .before .before .before) _ (c .before .before .before .before .before .before .before .before .before .before .before .before .before .pre .5) in omega arith
 
 returns-3 : tie.Need-returns-3
 returns-3 c =
-    let behind = c .before .before in
-    let found = behind .before .before .before .before in
+    let behind = c .before .before .before in
+    let found = behind .before .before .before .before .before in
     let start = found .before .before .before .before .before in
     let x = start .args in
-    crossed (x .one .nodes) (recordAt (x .first .now)) (recordAt (x .second .now)) (x .one .count) (x .other .count) (x .letters .now) (x .a) (x .b) (start .pre .3) (found .before .read-record .ensures) (found .find-left .ensures) (below (found .find-left .ensures .high) (behind .before .before .if1 .left))
-    (behind .before .read-record2 .ensures) (behind .find-record .ensures) (below (behind .find-record .ensures .high) (c .if2 .left))
+    crossed (x .one .nodes) (recordAt (x .first .now)) (recordAt (x .second .now)) (x .one .count) (x .places .now) (x .a) (getD (x .places .now) (x .b) 0) (start .pre .3) (row start) (found .before .read-record .ensures) (found .find-left .ensures) (left found (behind .before .before .before .if1 .left))
+    (behind .before .read-record2 .ensures) (behind .find-record .ensures) (below (behind .find-record .ensures .high) (c .before .if2 .left))
 
 pub hindrance-spec : {M : Type 1} → statement M
 hindrance-spec =
@@ -91,17 +121,22 @@ hindrance-spec =
     find-left-requires
     only-first-requires
     returns
+    mul-place
+    shared-slice-read-place
+    cast-place
     read-record-requires-2
     add-find-record
     find-record-requires
     only-second-requires
     returns-2
-    cast-t14
-    add-t15
-    cast-t16
-    add-t17
-    cast-t18
-    add-t19
-    cast-t20
-    add-t21
+    cast-t17
+    add-t18
+    cast-t19
+    add-t20
+    mul-t14
+    shared-slice-read-t16
+    cast-t22
+    add-t23
+    cast-t24
+    add-t25
     returns-3)
