@@ -1,22 +1,18 @@
 -- The pairs in doubt as a search finds them, one after another. Assumes nothing.
 use mathlib.Core.Path.{_≡_, refl, sym, ap, ap₂, _∙_}
-use mathlib.Core.Bool.{Bool, true, false, cond, not, _&&_, _||_}
+use mathlib.Core.Bool.{Bool, true, false, cond, _&&_}
 use mathlib.Core.List.{List, [], _∷_, _++_, map}
 use Prim.Native.Nat.{ℕ, zero, suc, _+_, _*_, _-_, _≤_, _<_}
 use native.Mathlib.Numerals.{add-one}
 use native.Mathlib.Omega.{arith}
 use native.Mathlib.Decide.{decLt}
-use lib.Dec.{eqb, leb, ltb}
+use lib.Dec.{ltb}
 use borrow.Author.Tests.{ltb-true}
 use Rattle.rules.specs.Step.{Event}
 use Rattle.logtext.specs.Numbers.{first-true, both-true}
-use lib.ListN.{length, getD}
 use Rattle.seqs.specs.Tables.{table-get}
-use Rattle.merges.specs.Independent.{independent}
 use Rattle.verdict.specs.Pairs.{kept, only}
-use Rattle.verdict.specs.Clocks.{clocks, fixed}
-use Rattle.letters.specs.Letters.{letterOf, TableFor, passes}
-use Rattle.letters.specs.Table.{passes-free}
+use Rattle.letters.specs.Letters.{letterOf}
 use Rattle.places.specs.Places.{from}
 use Rattle.places.specs.Seek.{Sought}
 use Rattle.doubts.specs.declared.Pair.{Pair}

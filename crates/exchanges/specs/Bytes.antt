@@ -1,12 +1,10 @@
 -- Steps as an event list of bytes: it is good, and says the steps. Assumes nothing.
 use mathlib.Core.Path.{_≡_, refl, sym, ap, ap₂, _∙_}
-use mathlib.Core.Bool.{Bool, true, false}
 use mathlib.Core.List.{List, [], _∷_, _++_}
 use Prim.Native.Nat.{ℕ, zero, suc, _+_, _*_, _-_, _/_, _%_, _≤_, _<_}
 use native.Mathlib.Nat.{le-of-suc-le-suc}
 use native.Mathlib.Omega.{arith}
-use lib.Dec.{eqb}
-use lib.ListN.{length, getD, length-append, List·getD-append}
+use lib.ListN.{length, getD, length-append}
 use lib.Seq.{getD-append-add}
 use borrow.Author.Tests.{eq-eqb, le-leb}
 use Rattle.rules.specs.Limits.{mostNodes}
@@ -14,7 +12,7 @@ use Rattle.rules.specs.Range.{within}
 use Rattle.rules.specs.Step.{Event}
 use Rattle.laws.specs.InRange.{All}
 use Rattle.seqs.specs.Tables.{table-of}
-use Rattle.lists.specs.EventList.{trailerLength, longest, byteAt, numberAt, trailerAt, firstRecord, recordCount, nodeCount, refusal, need, lengthFits, trailerFits, nodesFit, sumFits, eventAt, recordAt, records}
+use Rattle.lists.specs.EventList.{trailerLength, longest, byteAt, numberAt, trailerAt, firstRecord, recordCount, nodeCount, refusal, eventAt, recordAt, records}
 
 -- Kind and node of each.
 unfoldable pub flat : List Event → List ℕ

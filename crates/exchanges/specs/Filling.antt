@@ -1,16 +1,16 @@
 -- Steps put down as bytes, one after another. Assumes nothing.
-use mathlib.Core.Path.{_≡_, refl, sym, ap, ap₂, _∙_}
+use mathlib.Core.Path.{_≡_, refl, ap, ap₂, _∙_}
 use mathlib.Core.Bool.{Bool}
-use mathlib.Core.List.{List, [], _∷_, _++_, append-nil}
-use Prim.Native.Nat.{ℕ, zero, suc, _+_, _*_, _%_, _≤_, _<_}
+use mathlib.Core.List.{List, [], _∷_, _++_}
+use Prim.Native.Nat.{ℕ, _+_, _*_, _%_, _≤_, _<_}
 use native.Mathlib.Numerals.{add-one}
 use native.Mathlib.Omega.{arith}
 use lib.ListN.{length, getD, take, drop}
 use lib.Seq.{take-suc, take-all, take-at, sets-eq}
 use Rattle.rules.specs.Step.{Event}
 use Rattle.seqs.specs.Tables.{table, table-get, table-length}
-use Rattle.text.specs.Put.{Room, Put}
-use Rattle.text.specs.Puts.{put-none, put-then, put-length}
+use Rattle.text.specs.Put.{Put}
+use Rattle.text.specs.Puts.{put-none, put-then}
 use Rattle.exchanges.specs.Rows.{rowIn}
 use Rattle.exchanges.specs.Exchange.{moved}
 use Rattle.exchanges.specs.Bytes.{flat, trailerOf, listOf}

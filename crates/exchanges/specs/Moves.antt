@@ -1,18 +1,11 @@
 -- Which record stands where after an exchange, by the tests that the code makes. Assumes nothing.
-use mathlib.Core.Path.{_≡_, refl, sym, ap, ap₂, _∙_}
-use mathlib.Core.Bool.{Bool, true, false, cond}
-use mathlib.Core.List.{List, [], _∷_, map}
-use Prim.Native.Nat.{ℕ, zero, suc, _+_, _-_, _≤_, _<_}
+use mathlib.Core.Path.{_≡_}
+use mathlib.Core.Bool.{Bool, true, false}
+use Prim.Native.Nat.{ℕ, _+_, _-_, _≤_, _<_}
 use native.Mathlib.Omega.{arith}
 use native.Mathlib.Decide.{decLt, ℕ-discrete}
-use lib.Dec.{eqb, leb, ltb}
-use lib.ListN.{length, getD}
 use borrow.Author.Tests.{lt-ltb, le-ltb, le-leb, lt-leb, eq-eqb, ne-eqb}
-use Rattle.rules.specs.Step.{Event}
-use Rattle.seqs.specs.Tables.{table, table-get, table-length}
-use Rattle.logtext.specs.Log.{Row}
-use Rattle.exchanges.specs.Rows.{noRow, rowIn, rowsIn, stepsOf}
-use Rattle.exchanges.specs.Exchange.{movedUp, movedDown, moved, exchanged}
+use Rattle.exchanges.specs.Exchange.{movedUp, movedDown, moved}
 
 module _ (x y i : ℕ) where
   pub before-both : (up : Bool) → i < x → i ≡ moved up x y i

@@ -1,7 +1,7 @@
 -- Runs of the merge at hand and of the exchanged one. Assumes nothing.
 use mathlib.Core.Path.{_≡_, refl, sym, ap, ap₂, _∙_}
-use mathlib.Core.Bool.{Bool, true, false}
-use mathlib.Core.List.{List, [], _∷_, map}
+use mathlib.Core.Bool.{Bool, true}
+use mathlib.Core.List.{List, [], _∷_}
 use Prim.Native.Nat.{ℕ, zero, suc, _+_, _-_, _≤_, _<_}
 use native.Mathlib.Omega.{arith}
 use lib.ListN.{length, getD, drop}
@@ -9,7 +9,6 @@ use Rattle.rules.specs.Step.{Event, step, fresh}
 use Rattle.rules.specs.Run.{run}
 use Rattle.laws.specs.InRange.{All}
 use Rattle.seqs.specs.Tables.{table, table-get, table-length}
-use Rattle.lists.specs.EventList.{nodeCount, recordCount, records}
 use Rattle.runner.specs.Ran.{noWrites, historyRoom, ran}
 use Rattle.partings.specs.declared.Parting.{Parting}
 use Rattle.partings.specs.Difference.{difference, entries}

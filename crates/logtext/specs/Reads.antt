@@ -2,7 +2,7 @@
 use mathlib.Core.Path.{_≡_, refl, sym, ap, ap₂, _∙_}
 use mathlib.Core.Bool.{Bool, true, false, cond, _&&_, true≢false}
 use mathlib.Core.List.{List, [], _∷_, _++_, append-assoc, append-nil}
-use Prim.Native.Nat.{ℕ, zero, suc, _+_, _*_, _-_, _≤_, _<_}
+use Prim.Native.Nat.{ℕ, suc, _+_, _*_, _-_, _≤_, _<_}
 use native.Mathlib.Numerals.{add-one}
 use native.Mathlib.Omega.{arith}
 use native.Mathlib.Decide.{decLt}
@@ -16,14 +16,13 @@ use Rattle.text.specs.Put.{Put}
 use Rattle.text.specs.Puts.{put-none, put-then}
 use Rattle.places.specs.Seek.{Sought}
 use Rattle.logtext.specs.declared.Line.{Line}
-use Rattle.logtext.specs.declared.Line.the-variants.{Blank, Two, Four, Other}
+use Rattle.logtext.specs.declared.Line.the-variants.{Two, Four}
 use Rattle.logtext.specs.declared.Taken.{Taken}
 use Rattle.logtext.specs.declared.Head.{Head}
-use Rattle.logtext.specs.declared.Log.{Log}
-use Rattle.logtext.specs.Text.{isNewline, pieces, lines, lineOf}
+use Rattle.logtext.specs.Text.{isNewline, lines, lineOf}
 use Rattle.logtext.specs.Words.{first-piece, only-piece}
 use Rattle.logtext.specs.Known.{fits-few}
-use Rattle.logtext.specs.Log.{longestText, mostRecords, Row, fits, rowOn, Part, behind, after, part, Reading, badHead, noHead, headOn, headed, readLines, logOf, readText, rowNumbers, numbersIn}
+use Rattle.logtext.specs.Log.{mostRecords, Row, fits, rowOn, Part, behind, after, part, Reading, badHead, noHead, headOn, headed, readLines, logOf, readText, rowNumbers, numbersIn}
 
 abbrev pub rowRoom : ℕ
 rowRoom = 163810

@@ -1,10 +1,10 @@
 -- A line read word by word. Assumes nothing.
 use mathlib.Core.Path.{_≡_, refl, sym, ap, ap₂, _∙_}
 use mathlib.Core.Logic.{_≢_}
-use mathlib.Core.Bool.{Bool, true, false}
+use mathlib.Core.Bool.{true, false}
 use mathlib.Core.Option.{Option, none, some}
 use mathlib.Core.List.{List, [], _∷_, _++_, append-nil}
-use Prim.Native.Nat.{ℕ, zero, suc, _+_, _-_, _≤_, _<_}
+use Prim.Native.Nat.{ℕ, _+_, _-_, _≤_, _<_}
 use native.Mathlib.Numerals.{add-one}
 use native.Mathlib.Omega.{arith}
 use native.Mathlib.Decide.{ℕ-discrete}
@@ -15,7 +15,6 @@ use Rattle.rules.specs.Queues.{empty}
 use Rattle.places.specs.Seek.{Sought}
 use Rattle.logtext.specs.declared.Number.{Number}
 use Rattle.logtext.specs.declared.Number.the-variants.{Value, Bad}
-use Rattle.logtext.specs.declared.Line.{Line}
 use Rattle.logtext.specs.declared.Line.the-variants.{Blank, Two, Four, Other}
 use Rattle.logtext.specs.Text.{isBlank, pieces, numberOf, before, numbers, sorted, words, lineOf}
 use Rattle.logtext.specs.Words.{blankIs, line-skip, word-more, line-word}

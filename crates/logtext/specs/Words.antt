@@ -1,8 +1,8 @@
 -- Pieces and words as a loop finds them: from one place to the next. Assumes nothing.
 use mathlib.Core.Path.{_≡_, refl, sym, ap, ap₂, _∙_}
 use mathlib.Core.Bool.{Bool, true, false, not, true≢false, Bool·beq}
-use mathlib.Core.Option.{Option, none, some}
-use mathlib.Core.List.{List, [], _∷_, _++_}
+use mathlib.Core.Option.{none}
+use mathlib.Core.List.{List, [], _∷_}
 use Prim.Native.Nat.{ℕ, zero, suc, _+_, _-_, _≤_, _<_}
 use native.Mathlib.Nat.{le-of-suc-le-suc}
 use native.Mathlib.Omega.{arith}
@@ -11,9 +11,9 @@ use borrow.Author.Tests.{not-false}
 use lib.ListN.{length, getD, take, drop, length-drop, drop-of-length-le}
 use lib.Seq.{getD-drop, drop-drop, drop-cons, take-all}
 use Rattle.rules.specs.Queues.{empty}
-use Rattle.verdict.specs.Pairs.{kept, only}
+use Rattle.verdict.specs.Pairs.{only}
 use Rattle.places.specs.Seek.{Sought}
-use Rattle.logtext.specs.Text.{isNewline, isBlank, cut, pieces, lines, words}
+use Rattle.logtext.specs.Text.{isBlank, cut, pieces, words}
 
 -- Whether the byte at a place is blank, as asked for.
 abbrev pub blankIs : Bool → List ℕ → ℕ → Bool

@@ -5,7 +5,6 @@ ghost use mathlib.Core.List.{[], _∷_};
 ghost use Prim.Native.Nat.{_+_, _*_, _≤_, _<_};
 ghost use lib.ListN.{length, getD, take};
 ghost use lib.Seq.{sets};
-ghost use Rattle.text.specs.Put.{Room, Put};
 ghost use Rattle.places.specs.Seek.{Sought};
 ghost use Rattle.logtext.specs.Text.{isNewline, isBlank, isDigit, numberOf, sorted, lineOf};
 ghost use Rattle.logtext.specs.Words.{blankIs};

@@ -1,13 +1,13 @@
 // What the program `compare` prints for two event lists, as one text in a lent buffer.
 ghost use mathlib.Core.Path.{_≡_};
 ghost use mathlib.Core.List.{_++_};
-ghost use Prim.Native.Nat.{_+_, _*_, _≤_};
+ghost use Prim.Native.Nat.{_+_, _≤_};
 ghost use lib.ListN.{length};
 ghost use Rattle.lists.specs.EventList.{nodeCount};
 ghost use Rattle.runner.specs.Ran.{historyRoom};
 ghost use Rattle.runner.specs.Running.{Trails};
 ghost use Rattle.comparing.specs.Compared.{comparison};
-ghost use Rattle.text.specs.Put.{Room, Put};
+ghost use Rattle.text.specs.Put.{Put};
 ghost use Rattle.report.specs.Report.{longest, verdictLine, partingLine, runsText, report};
 ghost use Rattle.report.specs.Runs.{Written};
 use comparing::Finding;

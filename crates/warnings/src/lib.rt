@@ -1,5 +1,4 @@
 // What the program `merges` prints for a merged log, as one text in a lent buffer.
-ghost use mathlib.Core.Path.{_≡_};
 ghost use Prim.Native.Nat.{_+_, _*_, _≤_, _<_};
 ghost use lib.ListN.{length, take};
 ghost use Rattle.text.specs.Put.{Put};

@@ -2,7 +2,6 @@
 use mathlib.Core.Path.{_≡_, ap, sym, _∙_}
 use Prim.Native.Nat.{_-_}
 use lib.ListN.{length}
-use Rattle.rules.specs.Step.{Event}
 use Rattle.lists.specs.Reads.{eventOf}
 use Rattle.verdict.specs.Verdict.{sameEvent}
 use Rattle.comparing.specs.Row.{isThere}

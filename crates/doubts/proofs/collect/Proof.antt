@@ -5,7 +5,6 @@ use Rattle.text.specs.Puts.{put-length}
 use Rattle.exchanges.specs.Rows.{rowsIn}
 use Rattle.doubts.specs.Doubts.{doubtAt}
 use Rattle.doubts.specs.Found.{mostPairs, Collecting, collecting-starts, collecting-full, collecting-more, collecting-ends, doubts-from, found-as}
-use borrow.Author.Needs.{needs}
 use native.Mathlib.Omega.{arith}
 use Rattle.doubts.proofs.collect.Statement.{statement}
 use Rattle.doubts.proofs.collect.Tie as tie

@@ -5,7 +5,6 @@ use Rattle.exchanges.specs.Rows.{rowsIn}
 use Rattle.doubts.specs.Doubts.{doubtAt}
 use Rattle.doubts.specs.Search.{Reached, reached-end, reached-hit, reached-more}
 use borrow.Author.Needs.{needs}
-use native.Mathlib.Omega.{arith}
 use Rattle.doubts.proofs.next_pair.Statement.{statement}
 use Rattle.doubts.proofs.next_pair.Tie as tie
 

@@ -6,7 +6,6 @@ use borrow.Author.Tests.{not-true, not-false}
 use Rattle.text.specs.Puts.{put-length}
 use Rattle.logtext.specs.Reads.{Going, going-starts, going-stops, going-more, going-ends}
 use borrow.Author.Needs.{needs}
-use native.Mathlib.Omega.{arith}
 use Rattle.logtext.proofs.read_rows.Statement.{statement}
 use Rattle.logtext.proofs.read_rows.Tie as tie
 

@@ -6,7 +6,6 @@ use Rattle.text.specs.Puts.{put-length}
 use Rattle.text.specs.Line.{spaced}
 use Rattle.text.specs.Spacing.{spaced-none, spaced-more, room-blank, room-number, spaced-all}
 use borrow.Author.Needs.{needs}
-use native.Mathlib.Omega.{arith}
 use Rattle.text.proofs.put_numbers.Statement.{statement}
 use Rattle.text.proofs.put_numbers.Tie as tie
 
