@@ -25,19 +25,16 @@ const NO_WRITES: u32 = 256;
 
 // The fresh state, without its history.
 fn fresh_table(nodes: u8) -> Table
-    requires { ⌜ (1 ≤ nodes) × (nodes ≤ 8) ⌝ }
     ensures { λ r. ⌜ bodyIn r ≡ bodyOf (fresh nodes) ⌝ }
 {
-    let made = stepper::fresh(nodes);
-    let state = made.state;
-    let core = state.core;
+    let core = state::blank_core();
     let service = core.service;
     let rows = core.nodes;
     let streams = core.streams;
     let claims = core.claims;
     Table {
-        count: state.count,
-        running: state.running,
+        count: nodes,
+        running: true,
         service: service,
         nodes: rows,
         streams: streams,

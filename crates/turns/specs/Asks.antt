@@ -15,7 +15,9 @@ use Rattle.state.specs.declared.Stream.{Stream}
 use Rattle.state.specs.declared.Claims.{Claims}
 use Rattle.service.specs.Asks.{Joins, Leaving}
 use Rattle.nodes.specs.Waiting.{Waits}
-use Rattle.switch.specs.Asks.{IsNode, AtWire, Tells, CanWrite}
+use Rattle.streams.specs.Asks.{IsNode}
+use Rattle.switch.specs.Asks.{AtWire, Tells}
+use Rattle.writing.specs.Asks.{CanWrite}
 use Rattle.turns.specs.Turns.{barrier}
 use Rattle.turns.specs.declared.Ask.{Ask}
 

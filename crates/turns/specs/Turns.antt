@@ -20,8 +20,8 @@ use Rattle.state.specs.declared.Stream.{Stream}
 use Rattle.state.specs.declared.Claims.{Claims}
 use Rattle.state.specs.declared.Wire.{Wire}
 use Rattle.nodes.specs.Waiting.{received}
-use Rattle.switch.specs.Handled.{storeHandled}
-use Rattle.switch.specs.declared.Handled.{Handled}
+use Rattle.writing.specs.Handled.{storeHandled}
+use Rattle.writing.specs.declared.Handled.{Handled}
 use Rattle.turns.specs.declared.Ask.{Ask}
 use Rattle.turns.specs.declared.Row.{Row}
 

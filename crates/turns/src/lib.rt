@@ -6,7 +6,7 @@ ghost use mathlib.Core.Bool.{cond};
 ghost use Rattle.rules.specs.Codes.{stepDone, notAllowed};
 ghost use Rattle.state.specs.Order.{OrderedNodes};
 ghost use Rattle.nodes.specs.Waiting.{Waits};
-ghost use Rattle.switch.specs.Asks.{CanWrite};
+ghost use Rattle.writing.specs.Asks.{CanWrite};
 ghost use Rattle.turns.specs.Turns.{hasNode, rowKind, deskKind, atRow, atDesk, barrier, rowAnswer, deskAnswer, switchAnswer, wireAnswer, quiet, toldRow, writtenRow, rowAfter, serviceAfter, posting, wireAfter, runsAfter};
 ghost use Rattle.turns.specs.Asks.{RowAsks, WireAsks, RowGoes, DeskGoes, WireGoes};
 use parts::Mastership;
@@ -118,7 +118,7 @@ pub fn row_code(ask: Ask, writes: u16, node: Node, stream: Stream, claims: Claim
         ),
         7 => allowed_code(nodes::may_receive_write(stream)),
         8 => switch::connect_code(ask.running, stream),
-        _ => switch::handle_write_code(ask.count, ask.number, ask.running, stream, claims, writes),
+        _ => writing::handle_write_code(ask.count, ask.number, ask.running, stream, claims, writes),
     }
 }
 
@@ -215,7 +215,7 @@ fn written(ask: Ask, node: Node, stream: Stream, claims: Claims) -> Row
     requires { ⌜ CanWrite (ask .count) (ask .number) stream claims ⌝ }
     ensures { λ r. ⌜ r ≡ writtenRow ask node stream claims ⌝ }
 {
-    let handled = switch::handle_write(ask.count, ask.number, stream, claims);
+    let handled = writing::handle_write(ask.count, ask.number, stream, claims);
     let next = handled.stream;
     let last = handled.last;
     let term = handled.term;
