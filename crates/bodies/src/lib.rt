@@ -10,16 +10,16 @@ ghost use Rattle.rules.specs.Step.{kindOf, ofKind};
 ghost use Rattle.moves.specs.Bodies.{stateOf, Ready, Leaves};
 ghost use Rattle.moves.specs.Sets.{withDesk, withNode, withWire};
 ghost use Rattle.moves.specs.Acts.{plain};
-ghost use Rattle.turns.specs.Turns.{atRow, atDesk};
+ghost use Rattle.asks.specs.Classes.{atRow, atDesk};
 ghost use Rattle.turns.specs.Called.{askOf};
 ghost use Rattle.turns.specs.RowTurns.{rowMoved};
+use asks::Ask;
 use parts::Mastership;
 use parts::Term;
 use state::Body;
 use state::Moved;
 use state::Node;
 use state::Wire;
-use turns::Ask;
 use turns::Row;
 
 // The body stays as it is, or was changed, and no write was accepted.
@@ -167,7 +167,7 @@ fn at_wire(body: Body, kind: u8, number: u8) -> Moved
     let code = turns::wire_code(ask, streams, claims);
     if code == parts::DONE {
         let wire = turns::wire_after(ask, streams, claims);
-        return plain(parts::DONE, with_wire(body, turns::runs_after(ask), wire));
+        return plain(parts::DONE, with_wire(body, asks::runs_after(ask), wire));
     }
     plain(code, body)
 }
@@ -183,10 +183,10 @@ pub fn advance(body: Body, writes: u16, kind: u8, number: u8) -> Moved
         kind: kind,
         number: number,
     };
-    if turns::at_row(ask) {
+    if asks::at_row(ask) {
         return at_row(body, writes, kind, number);
     }
-    if turns::at_desk(ask) {
+    if asks::at_desk(ask) {
         return at_desk(body, kind, number);
     }
     at_wire(body, kind, number)

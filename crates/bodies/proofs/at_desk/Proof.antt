@@ -5,8 +5,7 @@ use Rattle.rules.specs.Codes.{stepDone}
 use Rattle.rules.specs.Step.{kindOf}
 use Rattle.moves.specs.Stored.{few, in-order-nodes}
 use Rattle.moves.specs.Acts.{plain}
-use Rattle.turns.specs.Asks.{DeskKind}
-use Rattle.turns.specs.Kinds.{desk-at}
+use Rattle.asks.specs.Kinds.{DeskKind, desk-at}
 use Rattle.turns.specs.At.{At, leaves-as}
 use Rattle.turns.specs.Called.{askOf, refused-leaves}
 use Rattle.turns.specs.DeskTurns.{desk-answered, desk-goes, desk-written, desk-room, desk-posts, desk-quiet}

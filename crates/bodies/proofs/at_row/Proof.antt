@@ -12,9 +12,8 @@ use Rattle.moves.specs.Sets.{withNode}
 use Rattle.moves.specs.Gets.{nodeOf, streamOf}
 use Rattle.moves.specs.Stored.{few}
 use Rattle.moves.specs.Acts.{plain}
+use Rattle.asks.specs.Kinds.{RowKind, row-at}
 use Rattle.turns.specs.Turns.{rowAnswer}
-use Rattle.turns.specs.Asks.{RowKind}
-use Rattle.turns.specs.Kinds.{row-at}
 use Rattle.turns.specs.At.{At, leaves-as}
 use Rattle.turns.specs.Nodes.{node-ordered}
 use Rattle.turns.specs.Called.{askOf, refused-leaves}

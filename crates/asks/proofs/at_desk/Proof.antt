@@ -1,9 +1,9 @@
 -- `at_desk` meets its contract. Assumes nothing.
 use native.Mathlib.Omega.{arith}
 use borrow.Author.Needs.{needs}
-use Rattle.turns.specs.Kinds.{inside, under, over}
-use Rattle.turns.proofs.at_desk.Statement.{statement}
-use Rattle.turns.proofs.at_desk.Tie as tie
+use Rattle.asks.specs.Kinds.{inside, under, over}
+use Rattle.asks.proofs.at_desk.Statement.{statement}
+use Rattle.asks.proofs.at_desk.Tie as tie
 
 returns : tie.Need-returns
 returns c = let k = c .before .before .args .ask .kind in simp (under 1 2 k (omega arith))

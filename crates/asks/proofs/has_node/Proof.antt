@@ -1,9 +1,9 @@
 -- `has_node` meets its contract. Assumes nothing.
 use mathlib.Core.Path.{sym}
 use native.Mathlib.Omega.{arith}
-use Rattle.turns.specs.Kinds.{under, from}
-use Rattle.turns.proofs.has_node.Statement.{statement}
-use Rattle.turns.proofs.has_node.Tie as tie
+use Rattle.asks.specs.Kinds.{under, from}
+use Rattle.asks.proofs.has_node.Statement.{statement}
+use Rattle.asks.proofs.has_node.Tie as tie
 
 returns : tie.Need-returns
 returns c = sym (under 1 _ _ (omega arith))

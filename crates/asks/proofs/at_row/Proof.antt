@@ -1,8 +1,8 @@
 -- `at_row` meets its contract. Assumes nothing.
 use mathlib.Core.Path.{sym, _∙_}
 use borrow.Author.Needs.{needs}
-use Rattle.turns.proofs.at_row.Statement.{statement}
-use Rattle.turns.proofs.at_row.Tie as tie
+use Rattle.asks.proofs.at_row.Statement.{statement}
+use Rattle.asks.proofs.at_row.Tie as tie
 
 is-row-kind-requires : tie.Need-is-row-kind-requires
 is-row-kind-requires c κs = search needs

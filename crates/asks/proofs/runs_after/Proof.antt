@@ -1,7 +1,7 @@
 -- `runs_after` meets its contract. Assumes nothing.
 use borrow.Author.Tests.{eq-eqb, ne-eqb}
-use Rattle.turns.proofs.runs_after.Statement.{statement}
-use Rattle.turns.proofs.runs_after.Tie as tie
+use Rattle.asks.proofs.runs_after.Statement.{statement}
+use Rattle.asks.proofs.runs_after.Tie as tie
 
 returns : tie.Need-returns
 returns c = simp (eq-eqb _ 13 (c .if1 .taken))

@@ -15,9 +15,29 @@ use Rattle.rules.specs.Rules as R
 use Rattle.rules.specs.Step.{kindOf, called}
 use Rattle.laws.specs.InRange.{Within}
 use Rattle.laws.specs.Tests.{is-eq, is-within, is-yes}
-use Rattle.turns.specs.declared.Ask.{Ask}
-use Rattle.turns.specs.Turns.{hasNode, rowKind, deskKind, atRow, atDesk, barrierOf}
-use Rattle.turns.specs.Asks.{RowKind, DeskKind, WireKind, learns, sendUpdate, receiveUpdate, sendWrite, receiveWrite, connect, handleWrite, join, leave, close, handleUpdate, shutdown, startup}
+use Rattle.asks.specs.declared.Ask.{Ask}
+use Rattle.asks.specs.Classes.{hasNode, rowKind, deskKind, atRow, atDesk, barrierOf}
+
+-- ---- which kinds each class has
+
+pub data RowKind : ℕ → Type 0 where
+  learns : RowKind 3
+  sendUpdate : RowKind 4
+  receiveUpdate : RowKind 5
+  sendWrite : RowKind 6
+  receiveWrite : RowKind 7
+  connect : RowKind 8
+  handleWrite : RowKind 11
+
+pub data DeskKind : ℕ → Type 0 where
+  join : DeskKind 1
+  leave : DeskKind 2
+
+pub data WireKind : ℕ → Type 0 where
+  close : WireKind 9
+  handleUpdate : WireKind 10
+  shutdown : WireKind 12
+  startup : WireKind 13
 
 -- ---- a number within bounds, or not
 

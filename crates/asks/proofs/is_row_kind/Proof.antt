@@ -1,9 +1,9 @@
 -- `is_row_kind` meets its contract. Assumes nothing.
 use native.Mathlib.Omega.{arith}
 use borrow.Author.Tests.{eq-eqb, ne-eqb}
-use Rattle.turns.specs.Kinds.{under, from}
-use Rattle.turns.proofs.is_row_kind.Statement.{statement}
-use Rattle.turns.proofs.is_row_kind.Tie as tie
+use Rattle.asks.specs.Kinds.{under, from}
+use Rattle.asks.proofs.is_row_kind.Statement.{statement}
+use Rattle.asks.proofs.is_row_kind.Tie as tie
 
 returns : tie.Need-returns
 returns c = simp (eq-eqb _ 11 (c .if1 .taken))

@@ -4,10 +4,10 @@ use mathlib.Core.Bool.{Bool, cond}
 use native.Mathlib.Omega.{arith}
 use borrow.Author.Tests.{eq-eqb, ne-eqb}
 use Rattle.rules.specs.Codes.{stepDone, unknownNode}
-use Rattle.turns.specs.Kinds.{no-kind, no-barrier, node-barrier, power-barrier}
+use Rattle.asks.specs.Kinds.{no-kind, no-barrier, node-barrier, power-barrier}
 use borrow.Author.Needs.{needs}
-use Rattle.turns.proofs.barrier.Statement.{statement}
-use Rattle.turns.proofs.barrier.Tie as tie
+use Rattle.asks.proofs.barrier.Statement.{statement}
+use Rattle.asks.proofs.barrier.Tie as tie
 
 returns : tie.Need-returns
 returns c = search needs
