@@ -1,7 +1,7 @@
 -- One turn of the loop, way by way, once every node has heard of the service's mastership. Assumes nothing.
 use mathlib.Core.Path.{_≡_, refl, sym, ap, subst, _∙_}
 use mathlib.Core.Logic.{_≢_}
-use mathlib.Core.Bool.{true, false}
+use mathlib.Core.Bool.{Bool, true, false}
 use mathlib.Core.List.{List}
 use Prim.Native.Nat.{ℕ, _+_, _*_, _-_, _<_}
 use native.Mathlib.Omega.{arith}
@@ -43,6 +43,37 @@ use Rattle.lists.specs.declared.Trailer.{Trailer}
 use Rattle.runner.specs.Tables.{bodyIn, pending, settled}
 use Rattle.runner.specs.Running.{ifAccepted, Runs, Running, ready, room-left, goes-on}
 
+-- The code is the answer of the class that the step is of. The history holds `writes`.
+pub data Coded (table : Table) (e : Event) (writes code : ℕ) : Type 0 where
+  of-row : atRow (askOf (bodyIn table) (e .kind) (e .node)) ≡ true
+      → code ≡ rowAnswer (askOf (bodyIn table) (e .kind) (e .node)) writes (nodeOf (bodyIn table) (e .node)) (streamOf (bodyIn table) (e .node)) (table .claims) → Coded table e writes code
+  of-desk : atRow (askOf (bodyIn table) (e .kind) (e .node)) ≡ false → atDesk (askOf (bodyIn table) (e .kind) (e .node)) ≡ true
+      → code ≡ deskAnswer (askOf (bodyIn table) (e .kind) (e .node)) (table .service) (table .nodes) → Coded table e writes code
+  of-wire : atRow (askOf (bodyIn table) (e .kind) (e .node)) ≡ false → atDesk (askOf (bodyIn table) (e .kind) (e .node)) ≡ false
+      → code ≡ wireAnswer (askOf (bodyIn table) (e .kind) (e .node)) (table .streams) (table .claims) → Coded table e writes code
+
+not-both : {x : Bool} → x ≡ true → x ≡ false → ⊥
+not-both e f = let w : _≡_ {A = ℕ} 0 1 = cc in absurd (omega arith)
+
+module _ (table : Table) (e : Event) (writes code : ℕ) where
+  row-coded : Coded table e writes code → atRow (askOf (bodyIn table) (e .kind) (e .node)) ≡ true
+      → code ≡ rowAnswer (askOf (bodyIn table) (e .kind) (e .node)) writes (nodeOf (bodyIn table) (e .node)) (streamOf (bodyIn table) (e .node)) (table .claims)
+  row-coded (of-row r c) h = c
+  row-coded (of-desk r d c) h = absurd (not-both h r)
+  row-coded (of-wire r d c) h = absurd (not-both h r)
+
+  desk-coded : Coded table e writes code → atRow (askOf (bodyIn table) (e .kind) (e .node)) ≡ false → atDesk (askOf (bodyIn table) (e .kind) (e .node)) ≡ true
+      → code ≡ deskAnswer (askOf (bodyIn table) (e .kind) (e .node)) (table .service) (table .nodes)
+  desk-coded (of-row r c) h k = absurd (not-both r h)
+  desk-coded (of-desk r d c) h k = c
+  desk-coded (of-wire r d c) h k = absurd (not-both k d)
+
+  wire-coded : Coded table e writes code → atRow (askOf (bodyIn table) (e .kind) (e .node)) ≡ false → atDesk (askOf (bodyIn table) (e .kind) (e .node)) ≡ false
+      → code ≡ wireAnswer (askOf (bodyIn table) (e .kind) (e .node)) (table .streams) (table .claims)
+  wire-coded (of-row r c) h k = absurd (not-both r h)
+  wire-coded (of-desk r d c) h k = absurd (not-both d k)
+  wire-coded (of-wire r d c) h k = c
+
 -- A turn that reads the record i: every node has heard, and the loop holds the run so far.
 pub record Turn (list : List ℕ) (t : Trailer) (out₀ : List ℕ) (i n : ℕ) (out : List ℕ) (table : Table) (told : ℕ) (e : Event) : Type 0 where
   pub runs : Runs list t (length out₀)
@@ -70,10 +101,15 @@ module _ {list : List ℕ} {t : Trailer} {out₀ : List ℕ} {i n : ℕ} {out : 
   unfolding historyBytes
   quietly x code j c l = goes-on out₀ (turn .runs) held (turn .is) l (turn .lt) (ap (λ (k : ℕ). set out i k) c) (omega arith)
 
-  -- a step that is refused
-  refused : {code : ℕ} → ((history : List S.Write) → length history ≡ n → code ≡ ofKind (kindOf (e .kind)) (e .node) (stateOf b history) .answer) → code ≢ stepDone
-      → Running list out₀ (i + 1) (set out i code) b n
-  refused {code} a h = quietly b code code refl (λ history long. refused-leaves b in-range (e .node) history (kindOf (e .kind)) code (a history long) h)
+  answered : (code : ℕ) → Coded table e n code → (history : List S.Write) → length history ≡ n → code ≡ ofKind (kindOf (e .kind)) (e .node) (stateOf (bodyIn table) history) .answer
+  answered code (of-row r c) history long = let k = row-at (askOf b (e .kind) (e .node)) r in
+      c ∙ ap (λ (j : ℕ). rowAnswer (askOf b (e .kind) (e .node)) j (nodeOf b (e .node)) (streamOf b (e .node)) (table .claims)) (sym long)
+      ∙ row-answered b (e .node) (at-node (k .1)) history (e .kind) (k .0)
+  answered code (of-desk r d c) history long = let k = desk-at (askOf b (e .kind) (e .node)) d in c ∙ desk-answered b (e .node) (at-node (k .1)) history (e .kind) (k .0)
+  answered code (of-wire r d c) history long = c ∙ wire-answered b in-range (e .node) (e .kind) r d history
+
+  pub refused-way : (code : ℕ) → Coded table e n code → code ≢ stepDone → Running list out₀ (i + 1) (set out i code) (bodyIn table) n
+  refused-way code c h = quietly b code code refl (λ history long. refused-leaves b in-range (e .node) history (kindOf (e .kind)) code (answered code c history long) h)
 
   -- ---- a node and its stream
 
@@ -87,85 +123,77 @@ module _ {list : List ℕ} {t : Trailer} {out₀ : List ℕ} {i n : ℕ} {out : 
     pub asks-row : RowAsks (askOf (bodyIn table) (e .kind) (e .node)) (nodeOf (bodyIn table) (e .node)) (streamOf (bodyIn table) (e .node))
     asks-row = row-asks b (e .node) at-row (e .kind) row-of
 
-  module _ (y : atRow (askOf (bodyIn table) (e .kind) (e .node)) ≡ true) {code : ℕ}
-      (c : code ≡ rowAnswer (askOf (bodyIn table) (e .kind) (e .node)) n (nodeOf (bodyIn table) (e .node)) (streamOf (bodyIn table) (e .node)) (table .claims)) where
-    pub row-refused : code ≢ stepDone → Running list out₀ (i + 1) (set out i code) (bodyIn table) n
-    row-refused = refused (λ history long.
-        c ∙ ap (λ (j : ℕ). rowAnswer (askOf b (e .kind) (e .node)) j (nodeOf b (e .node)) (streamOf b (e .node)) (table .claims)) (sym long)
-        ∙ row-answered b (e .node) (at-row y) history (e .kind) (row-of y))
+  module _ (y : atRow (askOf (bodyIn table) (e .kind) (e .node)) ≡ true) (code : ℕ) (d : Coded table e n code) (z : code ≡ stepDone) where
+    c : code ≡ rowAnswer (askOf b (e .kind) (e .node)) n (nodeOf b (e .node)) (streamOf b (e .node)) (table .claims)
+    c = row-coded table e n code d y
 
-    module _ (z : code ≡ stepDone) where
-      pub goes-row : RowGoes (askOf (bodyIn table) (e .kind) (e .node)) (nodeOf (bodyIn table) (e .node)) (streamOf (bodyIn table) (e .node)) (table .claims)
-      goes-row = row-goes b (e .node) (at-row y) n (e .kind) (row-of y) (sym c ∙ z)
+    pub goes-row : RowGoes (askOf (bodyIn table) (e .kind) (e .node)) (nodeOf (bodyIn table) (e .node)) (streamOf (bodyIn table) (e .node)) (table .claims)
+    goes-row = row-goes b (e .node) (at-row y) n (e .kind) (row-of y) (sym c ∙ z)
 
-      answerAt : ℕ → ℕ → ℕ
-      answerAt kind writes = rowAnswer (askOf b kind (e .node)) writes (nodeOf b (e .node)) (streamOf b (e .node)) (table .claims)
+    answerAt : ℕ → ℕ → ℕ
+    answerAt kind writes = rowAnswer (askOf b kind (e .node)) writes (nodeOf b (e .node)) (streamOf b (e .node)) (table .claims)
 
-      row-done : (history : List S.Write) → length history ≡ n → answerAt (e .kind) (length history) ≡ stepDone
+    row-done : (history : List S.Write) → length history ≡ n → answerAt (e .kind) (length history) ≡ stepDone
+    unfolding answerAt
+    row-done history long = ap (answerAt (e .kind)) long ∙ sym c ∙ z
+
+    pub learn-way : e .kind ≡ 3 → (x : Node) → x ≡ storeInbox (learnRule .effect (inboxOf (nodeOf (bodyIn table) (e .node)))) (nodeOf (bodyIn table) (e .node))
+        → Running list out₀ (i + 1) (set out i code) (withNode (e .node) x (bodyIn table)) n
+    unfolding answerAt
+    learn-way f x g = quietly (withNode (e .node) x b) code stepDone z (λ history long.
+        subst (λ (j : ℕ). Leaves (e .node) history (ofKind (kindOf j) (e .node) (stateOf b history)) (plain stepDone (withNode (e .node) x b))) (sym f)
+        (learn-leaves b (e .node) (at-row y) history (subst (λ (j : ℕ). answerAt j (length history) ≡ stepDone) f (row-done history long)) x g))
+
+    module _ (h : e .kind ≢ 3) (r : Row) (f : r ≡ rowAfter (askOf (bodyIn table) (e .kind) (e .node)) (nodeOf (bodyIn table) (e .node)) (streamOf (bodyIn table) (e .node)) (table .claims)) where
+      row-left : (history : List S.Write) → length history ≡ n → Leaves (e .node) history (ofKind (kindOf (e .kind)) (e .node) (stateOf b history)) (rowMoved b (e .node) r)
       unfolding answerAt
-      row-done history long = ap (answerAt (e .kind)) long ∙ sym c ∙ z
+      row-left history long =
+          subst (λ (x : Row). Leaves (e .node) history (ofKind (kindOf (e .kind)) (e .node) (stateOf b history)) (rowMoved b (e .node) x)) (sym f)
+          (row-leaves b (e .node) (at-row y) history (e .kind) (row-of y) h (row-done history long))
 
-      pub learn-way : e .kind ≡ 3 → (x : Node) → x ≡ storeInbox (learnRule .effect (inboxOf (nodeOf (bodyIn table) (e .node)))) (nodeOf (bodyIn table) (e .node))
-          → Running list out₀ (i + 1) (set out i code) (withNode (e .node) x (bodyIn table)) n
-      unfolding answerAt
-      learn-way f x g = quietly (withNode (e .node) x b) code stepDone z (λ history long.
-          subst (λ (j : ℕ). Leaves (e .node) history (ofKind (kindOf j) (e .node) (stateOf b history)) (plain stepDone (withNode (e .node) x b))) (sym f)
-          (learn-leaves b (e .node) (at-row y) history (subst (λ (j : ℕ). answerAt j (length history) ≡ stepDone) f (row-done history long)) x g))
+      pub row-room : r .entry .accepted ≡ true → n < historyLength
+      row-room accepted = room-left out₀ (turn .runs) held (turn .is) row-left accepted
 
-      module _ (h : e .kind ≢ 3) (r : Row) (f : r ≡ rowAfter (askOf (bodyIn table) (e .kind) (e .node)) (nodeOf (bodyIn table) (e .node)) (streamOf (bodyIn table) (e .node)) (table .claims)) where
-        row-left : (history : List S.Write) → length history ≡ n → Leaves (e .node) history (ofKind (kindOf (e .kind)) (e .node) (stateOf b history)) (rowMoved b (e .node) r)
-        unfolding answerAt
-        row-left history long =
-            subst (λ (x : Row). Leaves (e .node) history (ofKind (kindOf (e .kind)) (e .node) (stateOf b history)) (rowMoved b (e .node) x)) (sym f)
-            (row-leaves b (e .node) (at-row y) history (e .kind) (row-of y) h (row-done history long))
+      own : r .entry .node ≡ e .node
+      own = ap (λ (x : Row). x .entry .node) f ∙ row-entry b (e .node) (at-row y) (e .kind) (row-of y) h
 
-        pub row-room : r .entry .accepted ≡ true → n < historyLength
-        row-room accepted = room-left out₀ (turn .runs) held (turn .is) row-left accepted
-
-        own : r .entry .node ≡ e .node
-        own = ap (λ (x : Row). x .entry .node) f ∙ row-entry b (e .node) (at-row y) (e .kind) (row-of y) h
-
-        pub row-way : {out′ : List ℕ} → out′ ≡ sets (set out i code) (t .count + 4 * n) (historyBytes (ifAccepted (r .entry .accepted) (record { node = r .entry .node; term = r .entry .term .0 })))
-            → {n′ : ℕ} → n′ ≡ n + length (ifAccepted (r .entry .accepted) (record { node = r .entry .node; term = r .entry .term .0 }))
-            → Running list out₀ (i + 1) out′ (rowBody (bodyIn table) (e .node) r) n′
-        row-way p q = goes-on out₀ (turn .runs) held (turn .is) row-left (turn .lt)
-            (p ∙ ap (λ (j : ℕ). sets (set out i j) (t .count + 4 * n) (historyBytes (written (r .entry .node)))) z ∙ ap (λ (j : ℕ). sets (set out i stepDone) (t .count + 4 * n) (historyBytes (written j))) own)
-            (q ∙ ap (λ (j : ℕ). n + length (written j)) own)
-          where
-            written : ℕ → List S.Write
-            written j = ifAccepted (r .entry .accepted) (record { node = j; term = r .entry .term .0 })
+      pub row-way : {out′ : List ℕ} → out′ ≡ sets (set out i code) (t .count + 4 * n) (historyBytes (ifAccepted (r .entry .accepted) (record { node = r .entry .node; term = r .entry .term .0 })))
+          → {n′ : ℕ} → n′ ≡ n + length (ifAccepted (r .entry .accepted) (record { node = r .entry .node; term = r .entry .term .0 }))
+          → Running list out₀ (i + 1) out′ (rowBody (bodyIn table) (e .node) r) n′
+      row-way p q = goes-on out₀ (turn .runs) held (turn .is) row-left (turn .lt)
+          (p ∙ ap (λ (j : ℕ). sets (set out i j) (t .count + 4 * n) (historyBytes (written (r .entry .node)))) z ∙ ap (λ (j : ℕ). sets (set out i stepDone) (t .count + 4 * n) (historyBytes (written j))) own)
+          (q ∙ ap (λ (j : ℕ). n + length (written j)) own)
+        where
+          written : ℕ → List S.Write
+          written j = ifAccepted (r .entry .accepted) (record { node = j; term = r .entry .term .0 })
 
   -- ---- the service
 
-  module _ (y : atDesk (askOf (bodyIn table) (e .kind) (e .node)) ≡ true) where
+  module _ (r : atRow (askOf (bodyIn table) (e .kind) (e .node)) ≡ false) (y : atDesk (askOf (bodyIn table) (e .kind) (e .node)) ≡ true) (code : ℕ) (c : Coded table e n code)
+      (z : code ≡ stepDone) where
     desk-of : DeskKind (e .kind)
     desk-of = desk-at (askOf b (e .kind) (e .node)) y .0
 
     a : At (bodyIn table) (e .node)
     a = at-node (desk-at (askOf b (e .kind) (e .node)) y .1)
 
-  module _ (y : atDesk (askOf (bodyIn table) (e .kind) (e .node)) ≡ true) {code : ℕ} (c : code ≡ deskAnswer (askOf (bodyIn table) (e .kind) (e .node)) (table .service) (table .nodes)) where
-    pub desk-refused : code ≢ stepDone → Running list out₀ (i + 1) (set out i code) (bodyIn table) n
-    desk-refused = refused (λ history long. c ∙ desk-answered b (e .node) (a y) history (e .kind) (desk-of y))
+    desk-done : deskAnswer (askOf b (e .kind) (e .node)) (table .service) (table .nodes) ≡ stepDone
+    desk-done = sym (desk-coded table e n code c r y) ∙ z
 
-    module _ (z : code ≡ stepDone) where
-      desk-done : deskAnswer (askOf b (e .kind) (e .node)) (table .service) (table .nodes) ≡ stepDone
-      desk-done = sym c ∙ z
+    pub goes-desk : DeskGoes (askOf (bodyIn table) (e .kind) (e .node)) (table .service)
+    goes-desk = desk-goes b (e .node) a (e .kind) desk-of desk-done
 
-      pub goes-desk : DeskGoes (askOf (bodyIn table) (e .kind) (e .node)) (table .service)
-      goes-desk = desk-goes b (e .node) (a y) (e .kind) (desk-of y) desk-done
+    module _ (x : Mastership) (f : x ≡ serviceAfter (askOf (bodyIn table) (e .kind) (e .node)) (table .service)) where
+      pub post-way : posting (askOf (bodyIn table) (e .kind) (e .node)) (table .service) ≡ true
+          → Running list out₀ (i + 1) (set out i code) (withDesk x (mapFirst (hears x) (table .count) (table .nodes)) (bodyIn table)) n
+      post-way p =
+          quietly (withDesk x (mapFirst (hears x) (table .count) (table .nodes)) b) code stepDone z (λ history long.
+          desk-posts b (e .node) a history (e .kind) desk-of desk-done p x f _
+          (all-heard (table .count) (table .nodes) (in-order-nodes b in-range) x (desk-written b (e .node) a (e .kind) desk-of desk-done x f) (desk-room b (e .node) a (e .kind) desk-of desk-done p)))
 
-      module _ (x : Mastership) (f : x ≡ serviceAfter (askOf (bodyIn table) (e .kind) (e .node)) (table .service)) where
-        pub post-way : posting (askOf (bodyIn table) (e .kind) (e .node)) (table .service) ≡ true
-            → Running list out₀ (i + 1) (set out i code) (withDesk x (mapFirst (hears x) (table .count) (table .nodes)) (bodyIn table)) n
-        post-way p =
-            quietly (withDesk x (mapFirst (hears x) (table .count) (table .nodes)) b) code stepDone z (λ history long.
-            desk-posts b (e .node) (a y) history (e .kind) (desk-of y) desk-done p x f _
-            (all-heard (table .count) (table .nodes) (in-order-nodes b in-range) x (desk-written b (e .node) (a y) (e .kind) (desk-of y) desk-done x f) (desk-room b (e .node) (a y) (e .kind) (desk-of y) desk-done p)))
-
-        pub quiet-way : posting (askOf (bodyIn table) (e .kind) (e .node)) (table .service) ≡ false
-            → Running list out₀ (i + 1) (set out i code) (withDesk x (table .nodes) (bodyIn table)) n
-        quiet-way p = quietly (withDesk x (table .nodes) b) code stepDone z (λ history long. desk-quiet b (e .node) (a y) history (e .kind) (desk-of y) desk-done p x f)
+      pub quiet-way : posting (askOf (bodyIn table) (e .kind) (e .node)) (table .service) ≡ false
+          → Running list out₀ (i + 1) (set out i code) (withDesk x (table .nodes) (bodyIn table)) n
+      quiet-way p = quietly (withDesk x (table .nodes) b) code stepDone z (λ history long. desk-quiet b (e .node) a history (e .kind) desk-of desk-done p x f)
 
   -- ---- the switch and all streams
 
@@ -173,22 +201,18 @@ module _ {list : List ℕ} {t : Trailer} {out₀ : List ℕ} {i n : ℕ} {out : 
     pub asks-wire : WireAsks (askOf (bodyIn table) (e .kind) (e .node)) (table .streams) (table .claims)
     asks-wire = wire-asks b in-range (e .node) (e .kind) row desk
 
-  module _ (row : atRow (askOf (bodyIn table) (e .kind) (e .node)) ≡ false) (desk : atDesk (askOf (bodyIn table) (e .kind) (e .node)) ≡ false) {code : ℕ}
-      (c : code ≡ wireAnswer (askOf (bodyIn table) (e .kind) (e .node)) (table .streams) (table .claims)) where
-    pub wire-refused : code ≢ stepDone → Running list out₀ (i + 1) (set out i code) (bodyIn table) n
-    wire-refused = refused (λ history long. c ∙ wire-answered b in-range (e .node) (e .kind) row desk history)
+  module _ (row : atRow (askOf (bodyIn table) (e .kind) (e .node)) ≡ false) (desk : atDesk (askOf (bodyIn table) (e .kind) (e .node)) ≡ false) (code : ℕ) (c : Coded table e n code)
+      (z : code ≡ stepDone) where
+    wire-done : wireAnswer (askOf b (e .kind) (e .node)) (table .streams) (table .claims) ≡ stepDone
+    wire-done = sym (wire-coded table e n code c row desk) ∙ z
 
-    module _ (z : code ≡ stepDone) where
-      wire-done : wireAnswer (askOf b (e .kind) (e .node)) (table .streams) (table .claims) ≡ stepDone
-      wire-done = sym c ∙ z
+    pub goes-wire : WireGoes (askOf (bodyIn table) (e .kind) (e .node)) (table .streams) (table .claims)
+    goes-wire = wire-goes b in-range (e .node) (e .kind) row desk wire-done
 
-      pub goes-wire : WireGoes (askOf (bodyIn table) (e .kind) (e .node)) (table .streams) (table .claims)
-      goes-wire = wire-goes b in-range (e .node) (e .kind) row desk wire-done
-
-      pub wire-way : (x : Wire) → x ≡ wireAfter (askOf (bodyIn table) (e .kind) (e .node)) (table .streams) (table .claims)
-          → Running list out₀ (i + 1) (set out i code) (withWire (runsAfter (askOf (bodyIn table) (e .kind) (e .node))) (x .streams) (x .claims) (bodyIn table)) n
-      wire-way x f = quietly (withWire (runsAfter (askOf b (e .kind) (e .node))) (x .streams) (x .claims) b) code stepDone z (λ history long.
-          wire-leaves b in-range (e .node) (e .kind) row desk wire-done history x f)
+    pub wire-way : (x : Wire) → x ≡ wireAfter (askOf (bodyIn table) (e .kind) (e .node)) (table .streams) (table .claims)
+        → Running list out₀ (i + 1) (set out i code) (withWire (runsAfter (askOf (bodyIn table) (e .kind) (e .node))) (x .streams) (x .claims) (bodyIn table)) n
+    wire-way x f = quietly (withWire (runsAfter (askOf b (e .kind) (e .node))) (x .streams) (x .claims) b) code stepDone z (λ history long.
+        wire-leaves b in-range (e .node) (e .kind) row desk wire-done history x f)
 
 -- The same body, said otherwise.
 pub same-body : {list out₀ : List ℕ} {i n : ℕ} {out : List ℕ} {x y : Body} → x ≡ y → Running list out₀ i out y n → Running list out₀ i out x n

@@ -83,21 +83,35 @@ fn run_records(list: &[u8], trailer: Trailer, out: &mut [u8]) -> u16
             kind: event.kind,
             number: event.node,
         };
-        if asks::at_row(ask) {
+        let code = if asks::at_row(ask) {
             let at = (ask.number - 1) as usize;
             let node = table.nodes[at];
             let stream = table.streams[at];
             let claims = table.claims;
-            let code = turns::row_code(ask, writes, node, stream, claims);
-            out[i] = code;
-            i += 1;
-            if code != parts::DONE {
-                continue;
-            }
+            turns::row_code(ask, writes, node, stream, claims)
+        } else if asks::at_desk(ask) {
+            let service = table.service;
+            let rows = table.nodes;
+            turns::desk_code(ask, service, rows)
+        } else {
+            let streams = table.streams;
+            let claims = table.claims;
+            turns::wire_code(ask, streams, claims)
+        };
+        out[i] = code;
+        i += 1;
+        if code != parts::DONE {
+            continue;
+        }
+        if asks::at_row(ask) {
+            let at = (ask.number - 1) as usize;
+            let node = table.nodes[at];
             if ask.kind == turns::LEARN {
                 table.nodes[at] = nodes::learn(node);
                 continue;
             }
+            let stream = table.streams[at];
+            let claims = table.claims;
             let row = turns::row_after(ask, node, stream, claims);
             let next = row.stream;
             let held = row.claims;
@@ -110,31 +124,21 @@ fn run_records(list: &[u8], trailer: Trailer, out: &mut [u8]) -> u16
         }
         if asks::at_desk(ask) {
             let service = table.service;
-            let rows = table.nodes;
-            let code = turns::desk_code(ask, service, rows);
-            out[i] = code;
-            i += 1;
-            if code == parts::DONE {
-                table.service = turns::service_after(ask, service);
-                if turns::posts(ask, service) {
-                    told = 0;
-                }
+            let next = turns::service_after(ask, service);
+            table.service = next;
+            if turns::posts(ask, service) {
+                told = 0;
             }
             continue;
         }
         let streams = table.streams;
         let claims = table.claims;
-        let code = turns::wire_code(ask, streams, claims);
-        out[i] = code;
-        i += 1;
-        if code == parts::DONE {
-            let wire = turns::wire_after(ask, streams, claims);
-            let next = wire.streams;
-            let held = wire.claims;
-            table.streams = next;
-            table.claims = held;
-            table.running = asks::runs_after(ask);
-        }
+        let wire = turns::wire_after(ask, streams, claims);
+        let next = wire.streams;
+        let held = wire.claims;
+        table.streams = next;
+        table.claims = held;
+        table.running = asks::runs_after(ask);
     }
     writes
 }
