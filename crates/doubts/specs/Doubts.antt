@@ -7,7 +7,7 @@ use Rattle.verdict.specs.Pairs.{only}
 use Rattle.verdict.specs.Clocks.{clocks, fixed}
 use Rattle.places.specs.Places.{from}
 use Rattle.logtext.specs.Log.{Row}
-use Rattle.exchanges.specs.Rows.{noRow}
+use Rattle.records.specs.Rows.{noRow}
 use Rattle.doubts.specs.declared.Pair.{Pair}
 
 -- ---- two records

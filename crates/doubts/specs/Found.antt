@@ -10,7 +10,7 @@ use Rattle.seqs.specs.Tables.{table-length}
 use Rattle.text.specs.Put.{Put}
 use Rattle.text.specs.Puts.{put-none, put-then}
 use Rattle.places.specs.Places.{from}
-use Rattle.exchanges.specs.Rows.{rowIn, rowsIn}
+use Rattle.records.specs.Rows.{rowIn, rowsIn}
 use Rattle.doubts.specs.declared.Pair.{Pair}
 use Rattle.doubts.specs.Doubts.{doubtAt, pairs, doubts}
 use Rattle.doubts.specs.Search.{pairsFrom, pairs-start, Next}

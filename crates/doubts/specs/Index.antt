@@ -15,7 +15,7 @@ use Rattle.verdict.specs.Clocks.{fixed}
 use Rattle.letters.specs.Letters.{letterOf, TableFor, passes}
 use Rattle.letters.specs.Table.{passes-free}
 use Rattle.letters.specs.Known.{letter-small}
-use Rattle.exchanges.specs.Rows.{rowIn}
+use Rattle.records.specs.Rows.{rowIn}
 use Rattle.doubts.specs.Doubts.{inDoubt}
 
 -- The time of a record.

@@ -10,7 +10,7 @@ use Rattle.laws.specs.InRange.{All}
 use Rattle.laws.specs.Lists.{all-append}
 use Rattle.verdict.specs.Pairs.{kept, only}
 use Rattle.places.specs.Places.{from}
-use Rattle.exchanges.specs.Rows.{rowsIn}
+use Rattle.records.specs.Rows.{rowsIn}
 use Rattle.doubts.specs.declared.Pair.{Pair}
 use Rattle.doubts.specs.Doubts.{doubtAt, pairsWith, pairs, doubts}
 use Rattle.doubts.specs.Search.{pairs-start}

@@ -16,7 +16,7 @@ use Rattle.letters.specs.Letters.{letterOf}
 use Rattle.places.specs.Places.{from}
 use Rattle.places.specs.Seek.{Sought}
 use Rattle.doubts.specs.declared.Pair.{Pair}
-use Rattle.exchanges.specs.Rows.{noRow, rowIn, rowsIn}
+use Rattle.records.specs.Rows.{noRow, rowIn, rowsIn}
 use Rattle.doubts.specs.Doubts.{inDoubt, doubtAt, pairsWith, pairs}
 
 -- ---- two records

@@ -5,7 +5,7 @@ ghost use lib.ListN.{length, take};
 ghost use Rattle.logtext.specs.Log.{mostRecords};
 ghost use Rattle.letters.specs.Letters.{letterOf, TableFor};
 ghost use Rattle.places.specs.Seek.{Sought};
-ghost use Rattle.exchanges.specs.Rows.{rowIn, rowsIn};
+ghost use Rattle.records.specs.Rows.{rowIn, rowsIn};
 ghost use Rattle.doubts.specs.Doubts.{inDoubt, doubtAt, doubts};
 ghost use Rattle.doubts.specs.Index.{Lettered, Least, Index};
 ghost use Rattle.doubts.specs.Search.{Next};
@@ -101,7 +101,7 @@ fn in_doubt(
     if rows[5 * x + 1] == rows[5 * y + 1] {
         return false;
     }
-    exchanges::may_precede(rows[5 * y + 2], rows[5 * x + 2], bound)
+    records::may_precede(rows[5 * y + 2], rows[5 * x + 2], bound)
 }
 
 // The next record behind a start with which record x is in doubt; n where there is none. Where no time that is left is early enough, the search is over.
@@ -121,7 +121,7 @@ fn next_with(
 {
     let mut y = start;
     while y < n {
-        if !exchanges::may_precede(least[y], rows[5 * x + 2], bound) {
+        if !records::may_precede(least[y], rows[5 * x + 2], bound) {
             return n;
         }
         if in_doubt(rows, n, table, letters, least, nodes, bound, x, y) {

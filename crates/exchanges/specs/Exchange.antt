@@ -13,7 +13,7 @@ use Rattle.places.specs.Places.{from}
 use Rattle.partings.specs.declared.Parting.{Parting}
 use Rattle.partings.specs.Difference.{difference}
 use Rattle.logtext.specs.Log.{Row}
-use Rattle.exchanges.specs.Rows.{noRow, stepsOf}
+use Rattle.records.specs.Rows.{noRow, stepsOf}
 
 -- ---- which record stands at a place of the exchanged merge
 

@@ -11,7 +11,7 @@ use Rattle.rules.specs.Step.{Event}
 use Rattle.seqs.specs.Tables.{table, table-get, table-length}
 use Rattle.text.specs.Put.{Put}
 use Rattle.text.specs.Puts.{put-none, put-then}
-use Rattle.exchanges.specs.Rows.{rowIn}
+use Rattle.records.specs.Rows.{rowIn}
 use Rattle.exchanges.specs.Exchange.{moved}
 use Rattle.exchanges.specs.Bytes.{flat, trailerOf, listOf}
 

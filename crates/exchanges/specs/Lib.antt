@@ -1,4 +1,3 @@
-pub mod Rows
 pub mod Exchange
 pub mod Bytes
 pub mod Moves

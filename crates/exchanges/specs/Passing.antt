@@ -13,7 +13,7 @@ use Rattle.seqs.specs.Tables.{table-get}
 use Rattle.places.specs.Places.{from}
 use Rattle.places.specs.Seek.{Seeking}
 use Rattle.logtext.specs.Log.{Row}
-use Rattle.exchanges.specs.Rows.{noRow, rowIn, rowsIn}
+use Rattle.records.specs.Rows.{noRow, rowIn, rowsIn}
 use Rattle.exchanges.specs.Exchange.{mayPass, allowed}
 
 all-true : (test : ℕ → Bool) (a k : ℕ) → ((j : ℕ) → a ≤ j → j < a + k → test j ≡ true) → all test (from a k) ≡ true
@@ -61,12 +61,3 @@ allowed-down bound rows x y e =
     let one : x + 1 ≡ suc x = omega arith in
     let same : y + 1 - suc x ≡ y - x = omega arith in
     rw (e, one, same)
-
--- ---- times
-
-pub precedes : (a b d : ℕ) → b < a → leb (a - b) d ≡ leb a (b + d)
-precedes a b d h = go (leb (a - b) d) refl
-  where
-    go : (t : Bool) → leb (a - b) d ≡ t → t ≡ leb a (b + d)
-    go true e = let k = leb-true (a - b) d e in sym (le-leb a (b + d) (omega arith))
-    go false e = let k = leb-false (a - b) d e in sym (lt-leb a (b + d) (omega arith))

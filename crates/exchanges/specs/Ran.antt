@@ -15,7 +15,7 @@ use Rattle.partings.specs.Difference.{difference, entries}
 use Rattle.report.specs.Report.{history}
 use Rattle.report.specs.Runs.{Written, written-run}
 use Rattle.logtext.specs.Log.{Row}
-use Rattle.exchanges.specs.Rows.{noRow, rowIn, rowsIn, stepsOf}
+use Rattle.records.specs.Rows.{noRow, rowIn, rowsIn, stepsOf}
 use Rattle.exchanges.specs.Exchange.{moved, exchanged, historyOf, partingOf}
 use Rattle.exchanges.specs.Bytes.{listOf, Small, list-good, list-count, list-nodes, list-records}
 use Rattle.exchanges.specs.Moves.{before-both, moved-inside}

@@ -11,7 +11,7 @@ ghost use Rattle.text.specs.Put.{Put};
 ghost use Rattle.laws.specs.InRange.{All};
 ghost use Rattle.runner.specs.Ran.{historyRoom};
 ghost use Rattle.report.specs.Runs.{Written};
-ghost use Rattle.exchanges.specs.Rows.{noRow, rowIn, rowsIn, stepsOf};
+ghost use Rattle.records.specs.Rows.{noRow, rowIn, rowsIn, stepsOf};
 ghost use Rattle.exchanges.specs.Exchange.{moved, mayPass, allowed, partingOf};
 ghost use Rattle.exchanges.specs.Bytes.{flat, listOf, Small};
 ghost use Rattle.exchanges.specs.Filling.{stepAt};
@@ -137,16 +137,6 @@ pub fn parting(
 
 // ---- whether the clocks allow it
 
-// Whether a record of this time may stand before one of the other. The sum could be too large for a number of the machine.
-pub fn may_precede(time: u64, other: u64, bound: u64) -> bool
-    ensures { λ r. ⌜ r ≡ leb time (other + bound) ⌝ }
-{
-    if time <= other {
-        return true;
-    }
-    time - other <= bound
-}
-
 // Whether record m may pass record z, upwards or downwards.
 fn passes(rows: &[u64], bound: u64, up: bool, m: usize, z: usize) -> bool
     requires { ⌜ (5 * m + 5 ≤ length (now rows)) × (5 * z + 5 ≤ length (now rows)) ⌝ }
@@ -154,9 +144,9 @@ fn passes(rows: &[u64], bound: u64, up: bool, m: usize, z: usize) -> bool
 {
     let other = rows[5 * z + 1] != rows[5 * m + 1];
     if up {
-        return other & may_precede(rows[5 * m + 2], rows[5 * z + 2], bound);
+        return other & records::may_precede(rows[5 * m + 2], rows[5 * z + 2], bound);
     }
-    other & may_precede(rows[5 * z + 2], rows[5 * m + 2], bound)
+    other & records::may_precede(rows[5 * z + 2], rows[5 * m + 2], bound)
 }
 
 // Whether record m may pass all from a start to an end.

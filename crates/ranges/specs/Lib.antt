@@ -1,5 +1,4 @@
 pub mod Tests
-pub mod Each
 pub mod Places
 pub mod First
 pub mod Masterships

@@ -21,7 +21,7 @@ use Rattle.parts.specs.declared.Mastership.{Mastership}
 use Rattle.state.specs.Tidy.{isZero, blankMastership, tidyMastership}
 use Rattle.bridge.specs.Sized.{SizedMastership}
 use Rattle.bridge.specs.Rows.{taken-at, dropped-at}
-use Rattle.ranges.specs.Tests.{backupAt, backupPlace, backupsTest, blankTest, eventTest, serviceTest, learnedTest}
+use Rattle.queues.specs.Tests.{backupAt, backupPlace, backupsTest, blankTest, eventTest, serviceTest, learnedTest}
 use Rattle.ranges.specs.Places.{all-each, all-taken, all-dropped}
 use Rattle.ranges.specs.First.{ids-first, first-ids, ids-of, distinct-of}
 

@@ -13,7 +13,7 @@ use Rattle.laws.specs.InRange.{All}
 use Rattle.laws.specs.Tests.{Is, is-map, _&_, as-is, is-le, is-each}
 use Rattle.laws.specs.Lists.{all-with}
 use Rattle.bridge.specs.Rows.{all-take, all-drop, taken-at, dropped-at}
-use Rattle.ranges.specs.Tests.{place, placesTest}
+use Rattle.queues.specs.Tests.{place, placesTest}
 
 -- Two tests that say the same are the same.
 pub agree : {P : Type 0} (a b : Bool) → Is a P → Is b P → a ≡ b

@@ -23,7 +23,8 @@ use Rattle.state.specs.Tidy.{noMessage, noStatus, tidyMastership, blankMastersh
 use Rattle.state.specs.declared.Write.{Write}
 use Rattle.bridge.specs.Sized.{SizedMastership}
 use Rattle.bridge.specs.Rows.{Any}
-use Rattle.ranges.specs.Tests.{placesTest, eventTest, blankTest, requestTest, statusTest, responseTest, writeTest}
+use Rattle.queues.specs.Tests.{placesTest, eventTest, blankTest, requestTest, statusTest, responseTest}
+use Rattle.ranges.specs.Tests.{writeTest}
 use Rattle.ranges.specs.Places.{all-each, all-mapped, all-unmapped, is-places-test}
 use Rattle.ranges.specs.Masterships.{is-event, is-blank}
 

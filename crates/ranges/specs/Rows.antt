@@ -23,7 +23,8 @@ use Rattle.state.specs.declared.Node.{Node}
 use Rattle.state.specs.declared.Stream.{Stream}
 use Rattle.bridge.specs.Sized.{SizedMastership, SizedNode, SizedStream}
 use Rattle.bridge.specs.Rows.{all-any}
-use Rattle.ranges.specs.Tests.{backupsTest, eventTest, blankTest, learnedTest, eventsTest, requestsTest, responsesTest, nodeTest, blankNodeTest, shutTest, queuesTest, streamTest}
+use Rattle.queues.specs.Tests.{backupsTest, eventTest, blankTest, learnedTest, eventsTest, requestsTest, responsesTest}
+use Rattle.ranges.specs.Tests.{nodeTest, blankNodeTest, shutTest, queuesTest, streamTest}
 use Rattle.ranges.specs.Places.{is-then}
 use Rattle.ranges.specs.Masterships.{is-blank, is-learned}
 use Rattle.ranges.specs.Queues.{listFits, event, request, response, is-queue, is-none, none-fits, empty-held}

@@ -1,6 +1,4 @@
 // Whether a state is in range: the test whose no is code 1. Every place of every array is looked at.
-mod masterships;
-mod messages;
 mod rows;
 
 ghost use mathlib.Core.Path.{_≡_};
@@ -21,7 +19,7 @@ fn core_fits(count: u8, running: bool, core: Core) -> bool
     if parts::TOP_TERM < claims.last.0 {
         return false;
     }
-    if masterships::service_fits(count, service) {
+    if queues::masterships::service_fits(count, service) {
         if rows::nodes_fit(count, core) {
             if rows::streams_fit(count, running, core) {
                 return rows::ids_fit(count, claims);
@@ -37,7 +35,7 @@ pub fn in_range(s: State) -> bool
 {
     let core = s.core;
     let history = s.history;
-    if masterships::is_node(parts::MOST_NODES, s.count) {
+    if queues::masterships::is_node(parts::MOST_NODES, s.count) {
         if core_fits(s.count, s.running, core) {
             return rows::history_fits(s.count, history);
         }

@@ -9,8 +9,6 @@ ghost use Rattle.seqs.specs.Columns.{column};
 ghost use Rattle.state.specs.Hold.{idAt};
 ghost use Rattle.state.specs.Tidy.{blankWrite};
 ghost use Rattle.ranges.specs.Tests.{nodeTest, blankNodeTest, nodesTest, shutTest, queuesTest, streamTest, streamsTest, idTest, idsTest, writeTest, historyTest};
-use crate::masterships;
-use crate::messages;
 use parts::ElectionId;
 use parts::Term;
 use state::Claims;
@@ -25,8 +23,8 @@ fn node_fits(count: u8, row: Node) -> bool
 {
     let events = row.events;
     let learned = row.learned;
-    if masterships::events_fit(count, events) {
-        return masterships::learned_fits(count, learned);
+    if queues::masterships::events_fit(count, events) {
+        return queues::masterships::learned_fits(count, learned);
     }
     false
 }
@@ -92,8 +90,8 @@ fn queues_fit(row: Stream) -> bool
 {
     let requests = row.requests;
     let responses = row.responses;
-    if messages::requests_fit(requests) {
-        return messages::responses_fit(responses);
+    if queues::messages::requests_fit(requests) {
+        return queues::messages::responses_fit(responses);
     }
     false
 }
@@ -198,8 +196,8 @@ fn write_fits(count: u8, e: Write) -> bool
     ensures { λ r. ⌜ r ≡ writeTest count e ⌝ }
 {
     let term = e.term;
-    if masterships::is_node(count, e.node) {
-        return masterships::is_term(term);
+    if queues::masterships::is_node(count, e.node) {
+        return queues::masterships::is_term(term);
     }
     false
 }

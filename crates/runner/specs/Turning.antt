@@ -28,11 +28,12 @@ use Rattle.moves.specs.Acts.{plain}
 use Rattle.rules.specs.Rules.{learnRule}
 use Rattle.service.specs.Asks.{hears}
 use Rattle.service.specs.Posting.{all-heard}
+use Rattle.asks.specs.Classes.{atRow, atDesk, runsAfter}
+use Rattle.asks.specs.Kinds.{RowKind, DeskKind, row-at, desk-at}
 use Rattle.turns.specs.At.{At}
 use Rattle.turns.specs.declared.Row.{Row}
-use Rattle.turns.specs.Turns.{rowAnswer, rowAfter, deskAnswer, serviceAfter, posting, atRow, atDesk, wireAnswer, wireAfter, runsAfter}
-use Rattle.turns.specs.Asks.{RowKind, DeskKind, RowAsks, RowGoes, DeskGoes, WireAsks, WireGoes}
-use Rattle.turns.specs.Kinds.{row-at, desk-at}
+use Rattle.turns.specs.Turns.{rowAnswer, rowAfter, deskAnswer, serviceAfter, posting, wireAnswer, wireAfter}
+use Rattle.turns.specs.Asks.{RowAsks, RowGoes, DeskGoes, WireAsks, WireGoes}
 use Rattle.turns.specs.Called.{askOf, refused-leaves}
 use Rattle.turns.specs.RowTurns.{row-asks, row-answered, row-goes, rowBody, rowMoved, learn-leaves, row-leaves, row-entry}
 use Rattle.turns.specs.DeskTurns.{desk-answered, desk-goes, desk-written, desk-room, desk-posts, desk-quiet}

@@ -12,9 +12,9 @@ ghost use Rattle.lists.specs.EventList.{historyBytes, over};
 ghost use Rattle.runner.specs.Ran.{historyRoom, wholeRun, ran};
 ghost use Rattle.runner.specs.Tables.{bodyIn};
 ghost use Rattle.runner.specs.Running.{ifAccepted, Runs};
+use asks::Ask;
 use lists::Trailer;
 use state::Table;
-use turns::Ask;
 use turns::Entry;
 
 // The bytes behind the answers: room for a full history.
@@ -25,19 +25,16 @@ const NO_WRITES: u32 = 256;
 
 // The fresh state, without its history.
 fn fresh_table(nodes: u8) -> Table
-    requires { ⌜ (1 ≤ nodes) × (nodes ≤ 8) ⌝ }
     ensures { λ r. ⌜ bodyIn r ≡ bodyOf (fresh nodes) ⌝ }
 {
-    let made = stepper::fresh(nodes);
-    let state = made.state;
-    let core = state.core;
+    let core = state::blank_core();
     let service = core.service;
     let rows = core.nodes;
     let streams = core.streams;
     let claims = core.claims;
     Table {
-        count: state.count,
-        running: state.running,
+        count: nodes,
+        running: true,
         service: service,
         nodes: rows,
         streams: streams,
@@ -86,13 +83,13 @@ fn run_records(list: &[u8], trailer: Trailer, out: &mut [u8]) -> u16
             kind: event.kind,
             number: event.node,
         };
-        let code = if turns::at_row(ask) {
+        let code = if asks::at_row(ask) {
             let at = (ask.number - 1) as usize;
             let node = table.nodes[at];
             let stream = table.streams[at];
             let claims = table.claims;
             turns::row_code(ask, writes, node, stream, claims)
-        } else if turns::at_desk(ask) {
+        } else if asks::at_desk(ask) {
             let service = table.service;
             let rows = table.nodes;
             turns::desk_code(ask, service, rows)
@@ -106,7 +103,7 @@ fn run_records(list: &[u8], trailer: Trailer, out: &mut [u8]) -> u16
         if code != parts::DONE {
             continue;
         }
-        if turns::at_row(ask) {
+        if asks::at_row(ask) {
             let at = (ask.number - 1) as usize;
             let node = table.nodes[at];
             if ask.kind == turns::LEARN {
@@ -125,7 +122,7 @@ fn run_records(list: &[u8], trailer: Trailer, out: &mut [u8]) -> u16
             writes = keep(&mut *out, trailer.count, writes, entry);
             continue;
         }
-        if turns::at_desk(ask) {
+        if asks::at_desk(ask) {
             let service = table.service;
             let next = turns::service_after(ask, service);
             table.service = next;
@@ -141,7 +138,7 @@ fn run_records(list: &[u8], trailer: Trailer, out: &mut [u8]) -> u16
         let held = wire.claims;
         table.streams = next;
         table.claims = held;
-        table.running = turns::runs_after(ask);
+        table.running = asks::runs_after(ask);
     }
     writes
 }

@@ -3,3 +3,4 @@ pub mod Tidy
 pub mod Order
 pub mod Reads
 pub mod Stores
+pub mod Blank

@@ -1,4 +1,8 @@
 // The state as the code holds it: rows in arrays of eight, of which the first `count` are in use.
+ghost use mathlib.Core.Path.{_≡_};
+ghost use Prim.Native.Nat.{ℕ};
+ghost use Rattle.rules.specs.Step.{fresh};
+ghost use Rattle.state.specs.Hold.{packCore};
 use parts::ElectionId;
 use parts::EventQueue;
 use parts::Mastership;
@@ -83,4 +87,33 @@ pub struct Moved {
     pub body: Body,
     pub accepted: bool,
     pub term: Term,
+}
+
+// What a role owns before any step: nothing in any row, however many nodes there are.
+pub fn blank_core() -> Core
+    ensures { λ r. ⌜ ((count : ℕ) → r ≡ packCore (fresh count .core)) ⌝ }
+{
+    let blank = Mastership::blank();
+    let node = Node {
+        events: EventQueue::empty(),
+        learned: blank,
+        says: false,
+    };
+    let stream = Stream {
+        opened: false,
+        sent: Term(0),
+        requests: RequestQueue::empty(),
+        responses: ResponseQueue::empty(),
+    };
+    let claims = Claims {
+        ids: [ElectionId(0); 8],
+        terms: [Term(0); 8],
+        last: Term(0),
+    };
+    Core {
+        service: blank,
+        nodes: [node; 8],
+        streams: [stream; 8],
+        claims: claims,
+    }
 }

@@ -25,9 +25,11 @@ use Rattle.state.specs.Stores.{packWire, storeTelling}
 use Rattle.state.specs.declared.Stream.{Stream}
 use Rattle.state.specs.declared.Claims.{Claims}
 use Rattle.state.specs.declared.Wire.{Wire}
-use Rattle.switch.specs.Asks.{OrderedRows, AtWire}
-use Rattle.switch.specs.Does.{closedStream, clearedAt, withClaim, tellRow}
-use Rattle.switch.proofs.Answers.{answer-by, byTests, clear}
+use Rattle.streams.specs.Asks.{OrderedRows}
+use Rattle.streams.specs.Does.{tellRow}
+use Rattle.streams.proofs.Answers.{answer-by, byTests, clear}
+use Rattle.switch.specs.Asks.{AtWire}
+use Rattle.switch.specs.Does.{closedStream, clearedAt, withClaim}
 use Rattle.switch.proofs.Storing.{put, shut, lands-shut, blank-back, store-row, store-claim, sized, rows-eight}
 use Rattle.switch.proofs.Telling.{all-told}
 

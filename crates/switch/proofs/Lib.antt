@@ -1,10 +1,6 @@
-pub mod Passing
-pub mod Answers
 pub mod Storing
 pub mod Telling
 pub mod Closing
 pub mod Clearing
-pub mod Waiting
 pub mod Updating
-pub mod Writing
 pub mod Callers

@@ -20,7 +20,7 @@ use Rattle.parts.specs.Queues.{pushResponse}
 use Rattle.state.specs.Hold.{packStream, packStreams, streamRow}
 use Rattle.state.specs.Order.{pastStream}
 use Rattle.state.specs.declared.Stream.{Stream}
-use Rattle.switch.specs.Does.{told, tellRow}
+use Rattle.streams.specs.Does.{told, tellRow}
 use Rattle.switch.proofs.Storing.{row-at}
 
 -- a response goes last in a queue that has room

@@ -30,12 +30,14 @@ use Rattle.state.specs.Stores.{packWire, storeTelling}
 use Rattle.state.specs.declared.Stream.{Stream}
 use Rattle.state.specs.declared.Claims.{Claims}
 use Rattle.state.specs.declared.Wire.{Wire}
-use Rattle.switch.specs.Asks.{AtWire, UpdateAt, HasHead}
-use Rattle.switch.specs.Does.{told, withoutHead, able, collides, withClaim, tellRow, waiting}
-use Rattle.switch.proofs.Answers.{answer-by, byTests, clear}
+use Rattle.streams.specs.Asks.{HasHead}
+use Rattle.streams.specs.Does.{told, withoutHead, able, tellRow, waiting}
+use Rattle.streams.proofs.Answers.{answer-by, byTests, clear}
+use Rattle.streams.proofs.Waiting.{Ready, ready, running-too, message, update-waits, no-update-waits}
+use Rattle.switch.specs.Asks.{AtWire, UpdateAt}
+use Rattle.switch.specs.Does.{collides, withClaim}
 use Rattle.switch.proofs.Storing.{put, lands, store-row, store-claim, sized, row-at}
 use Rattle.switch.proofs.Telling.{push-packed, all-told}
-use Rattle.switch.proofs.Waiting.{Ready, ready, running-too, message, update-waits, no-update-waits}
 use Rattle.switch.proofs.Closing.{below, open-at, close-answer}
 
 module _ {count n : ℕ} {streams : List Stream} {claims : Claims} (h : AtWire count n streams claims) where

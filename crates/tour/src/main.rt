@@ -4,14 +4,20 @@ use parts::Term;
 use state::State;
 use state::Write;
 
-// The steps of a list, kind and node by turns, from a state: the answers on one line. The state that they leave.
-fn play(from: State, steps: &[u8]) -> State {
+// A number behind the words that say what it is.
+fn print_number(words: &[u8], number: u64) {
+    io::write_all(STDOUT_FILENO, words);
+    io::print_decimal(STDOUT_FILENO, number);
+}
+
+// The steps of a list, kind and node by turns, from a state: what they show, and the answers on the same line. The state that they leave.
+fn play(words: &[u8], from: State, steps: &[u8]) -> State {
+    io::write_all(STDOUT_FILENO, words);
     let mut state = from;
     let mut i: usize = 0;
     while i + 1 < steps.len() {
         let stepped = stepper::step(state, steps[i], steps[i + 1]);
-        io::write_all(STDOUT_FILENO, b" ");
-        io::print_decimal(STDOUT_FILENO, stepped.code as u64);
+        print_number(b" ", stepped.code as u64);
         let next = stepped.state;
         state = next;
         i += 2;
@@ -26,6 +32,12 @@ fn fresh(nodes: u8) -> State {
     state
 }
 
+fn print_write(write: Write) {
+    print_number(b"  wrote ", write.node as u64);
+    print_number(b" in term ", write.term.0 as u64);
+    io::write_all(STDOUT_FILENO, b"\n");
+}
+
 // The accepted writes, node and term of each, of which a list of this program has a few.
 fn print_writes(state: State) {
     let history = state.history;
@@ -33,12 +45,7 @@ fn print_writes(state: State) {
     let mut i: usize = 0;
     while i < 8 {
         if i < len {
-            let write = history.items[i];
-            io::write_all(STDOUT_FILENO, b"  wrote ");
-            io::print_decimal(STDOUT_FILENO, write.node as u64);
-            io::write_all(STDOUT_FILENO, b" in term ");
-            io::print_decimal(STDOUT_FILENO, write.term.0 as u64);
-            io::write_all(STDOUT_FILENO, b"\n");
+            print_write(history.items[i]);
         }
         i += 1;
     }
@@ -46,21 +53,15 @@ fn print_writes(state: State) {
 
 fn print_open(state: State) {
     let report = stepper::open_streams(state);
-    io::write_all(STDOUT_FILENO, b"  open: code ");
-    io::print_decimal(STDOUT_FILENO, report.code as u64);
-    io::write_all(STDOUT_FILENO, b" word ");
-    io::print_decimal(STDOUT_FILENO, report.word as u64);
-    io::write_all(STDOUT_FILENO, b" count ");
-    io::print_decimal(STDOUT_FILENO, report.count as u64);
+    print_number(b"  open: code ", report.code as u64);
+    print_number(b" word ", report.word as u64);
+    print_number(b" count ", report.count as u64);
     io::write_all(STDOUT_FILENO, b"\n");
 }
 
 fn first_master_writes() {
-    io::write_all(
-        STDOUT_FILENO,
-        b"two nodes, the first becomes master and writes:",
-    );
     let end = play(
+        b"two nodes, the first becomes master and writes:",
         fresh(2),
         &[1, 1, 3, 1, 8, 1, 4, 1, 10, 1, 5, 1, 6, 1, 11, 1],
     );
@@ -69,10 +70,13 @@ fn first_master_writes() {
 }
 
 fn queues_fill() {
-    io::write_all(STDOUT_FILENO, b"one node, nothing learned, the ninth Join:");
     let joins =
         b"\x01\x01\x02\x01\x01\x01\x02\x01\x01\x01\x02\x01\x01\x01\x02\x01\x01\x01\x02\x01\x01\x01\x02\x01\x01\x01\x02\x01\x01\x01\x02\x01\x01\x01";
-    play(fresh(1), joins);
+    play(
+        b"one node, nothing learned, the ninth Join:",
+        fresh(1),
+        joins,
+    );
 }
 
 // A fresh state of two nodes whose service is at a later term.
@@ -87,60 +91,62 @@ fn at_term(term: Term) -> State {
 }
 
 fn terms_end() {
-    io::write_all(STDOUT_FILENO, b"Join at term 10000:");
-    play(at_term(Term(10000)), &[1, 1]);
-    io::write_all(STDOUT_FILENO, b"Join at term 9999, Leave, Join:");
-    play(at_term(Term(9999)), &[1, 1, 2, 1, 1, 1]);
+    play(b"Join at term 10000:", at_term(Term(10000)), &[1, 1]);
+    play(
+        b"Join at term 9999, Leave, Join:",
+        at_term(Term(9999)),
+        &[1, 1, 2, 1, 1, 1],
+    );
 }
 
 fn wrong_calls() {
-    io::write_all(
-        STDOUT_FILENO,
+    play(
         b"Connect twice, Shutdown with node 1, an unknown kind, an unknown node:",
+        fresh(2),
+        &[8, 1, 8, 1, 12, 1, 14, 1, 0, 0, 1, 3, 1, 0],
     );
-    play(fresh(2), &[8, 1, 8, 1, 12, 1, 14, 1, 0, 0, 1, 3, 1, 0]);
-    io::write_all(STDOUT_FILENO, b"a state of nine nodes:");
+}
+
+fn nine_nodes() {
     let mut wide = fresh(2);
     wide.count = 9;
-    print_open(play(wide, &[1, 1]));
-    io::write_all(STDOUT_FILENO, b"fresh states of 0 and 9 nodes: ");
+    print_open(play(b"a state of nine nodes:", wide, &[1, 1]));
+}
+
+fn wrong_counts() {
     let none = stepper::fresh(0);
-    io::print_decimal(STDOUT_FILENO, none.code as u64);
-    io::write_all(STDOUT_FILENO, b" ");
     let nine = stepper::fresh(9);
-    io::print_decimal(STDOUT_FILENO, nine.code as u64);
+    print_number(b"fresh states of 0 and 9 nodes: ", none.code as u64);
+    print_number(b" ", nine.code as u64);
     io::write_all(STDOUT_FILENO, b"\n");
 }
 
 fn ids_collide() {
-    io::write_all(
-        STDOUT_FILENO,
-        b"a first backup asks for the id of an older master; its stream closes:",
-    );
     let steps =
         b"\x01\x01\x03\x01\x08\x01\x04\x01\x0a\x01\x01\x02\x01\x03\x02\x01\x03\x03\x03\x03\x03\x03\x03\x03\x08\x03\x04\x03\x0a\x03\x09\x03\x08\x03";
-    print_open(play(fresh(3), steps));
+    print_open(play(
+        b"a first backup asks for the id of an older master; its stream closes:",
+        fresh(3),
+        steps,
+    ));
 }
 
 fn old_master_is_denied() {
-    io::write_all(
-        STDOUT_FILENO,
-        b"an old master is switch master again and is denied:",
-    );
     let steps =
         b"\x01\x01\x01\x02\x03\x01\x03\x01\x08\x01\x04\x01\x0a\x01\x05\x01\x02\x01\x03\x02\x03\x02\x03\x02\x08\x02\x04\x02\x0a\x02\x05\x02\x06\x02\x0b\x02\x09\x02\x06\x01\x0b\x01\x05\x01\x05\x01\x07\x01";
-    print_writes(play(fresh(2), steps));
+    print_writes(play(
+        b"an old master is switch master again and is denied:",
+        fresh(2),
+        steps,
+    ));
 }
 
 fn order_matters() {
-    io::write_all(STDOUT_FILENO, b"Learn 1 then Join 2:");
-    play(fresh(2), &[3, 1, 1, 2]);
-    io::write_all(STDOUT_FILENO, b"Join 2 then Learn 1:");
-    play(fresh(2), &[1, 2, 3, 1]);
+    play(b"Learn 1 then Join 2:", fresh(2), &[3, 1, 1, 2]);
+    play(b"Join 2 then Learn 1:", fresh(2), &[1, 2, 3, 1]);
 }
 
 fn history_is_full() {
-    io::write_all(STDOUT_FILENO, b"1024 writes held, one more:");
     let mut full = fresh(2);
     let mut history = full.history;
     let write = Write {
@@ -150,7 +156,11 @@ fn history_is_full() {
     history.items = [write; 1024];
     history.len = 1024;
     full.history = history;
-    play(full, &[1, 1, 3, 1, 8, 1, 4, 1, 10, 1, 5, 1, 6, 1, 11, 1]);
+    play(
+        b"1024 writes held, one more:",
+        full,
+        &[1, 1, 3, 1, 8, 1, 4, 1, 10, 1, 5, 1, 6, 1, 11, 1],
+    );
 }
 
 fn main() {
@@ -158,6 +168,8 @@ fn main() {
     queues_fill();
     terms_end();
     wrong_calls();
+    nine_nodes();
+    wrong_counts();
     ids_collide();
     old_master_is_denied();
     order_matters();

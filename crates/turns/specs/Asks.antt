@@ -1,9 +1,8 @@
--- Which kinds each class has, and what the functions of this crate ask of their callers.
+-- What the functions of this crate ask of their callers.
 use mathlib.Core.Path.{_≡_}
 use mathlib.Core.Logic.{_⊎_}
 use mathlib.Core.Bool.{false}
 use mathlib.Core.List.{List}
-use Prim.Native.Nat.{ℕ}
 use lib.Dec.{leb}
 use Rattle.rules.specs.Codes.{stepDone}
 use Rattle.rules.specs.Limits.{queueLength}
@@ -15,28 +14,12 @@ use Rattle.state.specs.declared.Stream.{Stream}
 use Rattle.state.specs.declared.Claims.{Claims}
 use Rattle.service.specs.Asks.{Joins, Leaving}
 use Rattle.nodes.specs.Waiting.{Waits}
-use Rattle.switch.specs.Asks.{IsNode, AtWire, Tells, CanWrite}
-use Rattle.turns.specs.Turns.{barrier}
-use Rattle.turns.specs.declared.Ask.{Ask}
-
-pub data RowKind : ℕ → Type 0 where
-  learns : RowKind 3
-  sendUpdate : RowKind 4
-  receiveUpdate : RowKind 5
-  sendWrite : RowKind 6
-  receiveWrite : RowKind 7
-  connect : RowKind 8
-  handleWrite : RowKind 11
-
-pub data DeskKind : ℕ → Type 0 where
-  join : DeskKind 1
-  leave : DeskKind 2
-
-pub data WireKind : ℕ → Type 0 where
-  close : WireKind 9
-  handleUpdate : WireKind 10
-  shutdown : WireKind 12
-  startup : WireKind 13
+use Rattle.streams.specs.Asks.{IsNode}
+use Rattle.switch.specs.Asks.{AtWire, Tells}
+use Rattle.writing.specs.Asks.{CanWrite}
+use Rattle.asks.specs.Classes.{barrier}
+use Rattle.asks.specs.Kinds.{RowKind, DeskKind, WireKind}
+use Rattle.asks.specs.declared.Ask.{Ask}
 
 -- A node and its stream, both in order.
 pub record RowAsks (a : Ask) (node : Node) (stream : Stream) : Type 0 where

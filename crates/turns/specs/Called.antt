@@ -16,7 +16,7 @@ use Rattle.state.specs.declared.Body.{Body}
 use Rattle.state.specs.declared.Moved.{Moved}
 use Rattle.moves.specs.Bodies.{stateOf, bodyOf, Ready, Leaves}
 use Rattle.moves.specs.Acts.{plain, answered, stayed}
-use Rattle.turns.specs.declared.Ask.{Ask}
+use Rattle.asks.specs.declared.Ask.{Ask}
 
 -- What is asked of a body.
 abbrev pub askOf : Body → ℕ → ℕ → Ask

@@ -21,11 +21,11 @@ use Rattle.state.specs.declared.Body.{Body}
 use Rattle.moves.specs.Bodies.{stateOf, Leaves}
 use Rattle.moves.specs.Sets.{withDesk}
 use Rattle.moves.specs.Acts.{plain}
+use Rattle.asks.specs.Kinds.{DeskKind, join, leave, inside}
 use Rattle.turns.specs.At.{At}
 use Rattle.turns.specs.Service.{joins, join-written, join-room, join-yes, leaving, leave-written, leave-room, leave-posts, leave-quiet}
 use Rattle.turns.specs.Turns.{deskAnswer, serviceAfter, posting}
-use Rattle.turns.specs.Asks.{DeskKind, DeskGoes, join, leave}
-use Rattle.turns.specs.Kinds.{inside}
+use Rattle.turns.specs.Asks.{DeskGoes}
 use Rattle.turns.specs.Called.{askOf, called-answer, called-leaves}
 
 module _ (b : Body) (n : ℕ) (a : At b n) where

@@ -1,6 +1,5 @@
 pub mod Turns
 pub mod Asks
-pub mod Kinds
 pub mod Answers
 pub mod At
 pub mod Nodes

@@ -25,16 +25,16 @@ use Rattle.moves.specs.Bodies.{stateOf, Leaves}
 use Rattle.moves.specs.Sets.{withDesk, withNode, withStream, withLast}
 use Rattle.moves.specs.Gets.{nodeOf, streamOf, inbox-read, sender-read, receiver-read, linked-read, served-read}
 use Rattle.moves.specs.Acts.{plain, passes}
-use Rattle.switch.specs.Handled.{storeHandled}
-use Rattle.switch.specs.declared.Handled.{Handled}
-use Rattle.switch.proofs.Callers.{write-can, write-effect, acceptedOf, accepted-back}
+use Rattle.writing.specs.Handled.{storeHandled}
+use Rattle.writing.specs.declared.Handled.{Handled}
+use Rattle.writing.proofs.Callers.{write-can, write-effect, acceptedOf, accepted-back}
+use Rattle.asks.specs.Kinds.{RowKind, learns, sendUpdate, receiveUpdate, sendWrite, receiveWrite, connect, handleWrite, inside}
 use Rattle.turns.specs.At.{At, row-in}
 use Rattle.turns.specs.Nodes.{node-ordered, stream-ordered, learn-yes, send-yes, receive-update-yes, receive-write-yes, sends, waits}
 use Rattle.turns.specs.Switch.{at-stream, link-yes, serve-yes}
 use Rattle.turns.specs.declared.Row.{Row}
 use Rattle.turns.specs.Turns.{rowAnswer, quiet, rowAfter}
-use Rattle.turns.specs.Asks.{RowKind, RowAsks, RowGoes, learns, sendUpdate, receiveUpdate, sendWrite, receiveWrite, connect, handleWrite}
-use Rattle.turns.specs.Kinds.{inside}
+use Rattle.turns.specs.Asks.{RowAsks, RowGoes}
 use Rattle.turns.specs.Answers.{learn-answer, send-update-answer, receive-update-answer, send-write-answer, receive-write-answer}
 use Rattle.turns.specs.Called.{askOf, called-answer, called-leaves}
 

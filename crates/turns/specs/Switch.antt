@@ -18,7 +18,8 @@ use Rattle.state.specs.declared.Stream.{Stream}
 use Rattle.state.specs.declared.Wire.{Wire}
 use Rattle.state.specs.declared.Body.{Body}
 use Rattle.state.specs.declared.Moved.{Moved}
-use Rattle.switch.specs.Asks.{AtWire, AtStream}
+use Rattle.switch.specs.Asks.{AtWire}
+use Rattle.writing.specs.Asks.{AtStream}
 use Rattle.moves.specs.Bodies.{stateOf, acceptedIn, Ready, Leaves}
 use Rattle.moves.specs.Sets.{withWire, withStream, withLast}
 use Rattle.moves.specs.Gets.{streamOf, linked-read, served-read}

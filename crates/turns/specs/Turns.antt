@@ -1,15 +1,12 @@
 -- What a step answers and leaves, by its class, on the structs that the class concerns.
-use mathlib.Core.Bool.{Bool, true, false, cond, _&&_, _||_}
-use mathlib.Core.Option.{Option, none, some}
+use mathlib.Core.Bool.{Bool, true, false, cond}
 use mathlib.Core.List.{List, [], _∷_}
 use Prim.Native.Nat.{ℕ, _-_}
 use lib.Dec.{eqb}
 use lib.ListN.{getD}
-use Rattle.rules.specs.Codes.{stepDone, unknownKind, unknownNode}
-use Rattle.rules.specs.Range.{within}
+use Rattle.rules.specs.Codes.{stepDone}
 use Rattle.rules.specs.Part.{decide}
-use Rattle.rules.specs.Rules.{Kind, classOf, joinRule, leaveRule, joined, left, handsOver, learnRule, sendUpdateRule, receiveUpdateRule, sendWriteRule, receiveWriteRule, connectRule, closeRule, handleUpdateRule, handleWriteRule, shutdownRule, startupRule, cleared}
-use Rattle.rules.specs.Step.{kindOf, called}
+use Rattle.rules.specs.Rules.{joinRule, leaveRule, joined, left, handsOver, learnRule, sendUpdateRule, receiveUpdateRule, sendWriteRule, receiveWriteRule, connectRule, closeRule, handleUpdateRule, handleWriteRule, shutdownRule, startupRule, cleared}
 use Rattle.parts.specs.Hold.{holdMastership, packMastership}
 use Rattle.parts.specs.declared.Mastership.{Mastership}
 use Rattle.state.specs.Hold.{holdDesk, holdWire}
@@ -20,37 +17,13 @@ use Rattle.state.specs.declared.Stream.{Stream}
 use Rattle.state.specs.declared.Claims.{Claims}
 use Rattle.state.specs.declared.Wire.{Wire}
 use Rattle.nodes.specs.Waiting.{received}
-use Rattle.switch.specs.Handled.{storeHandled}
-use Rattle.switch.specs.declared.Handled.{Handled}
-use Rattle.turns.specs.declared.Ask.{Ask}
+use Rattle.writing.specs.Handled.{storeHandled}
+use Rattle.writing.specs.declared.Handled.{Handled}
+use Rattle.asks.specs.declared.Ask.{Ask}
+use Rattle.asks.specs.Classes.{barrier}
 use Rattle.turns.specs.declared.Row.{Row}
 
--- ---- which steps concern what
-
-abbrev pub hasNode : Ask → Bool
-hasNode a = within 1 (a .count) (a .number)
-
-abbrev pub rowKind : ℕ → Bool
-rowKind k = eqb k 11 || within 3 8 k
-
-abbrev pub deskKind : ℕ → Bool
-deskKind k = within 1 2 k
-
-abbrev pub atRow : Ask → Bool
-atRow a = rowKind (a .kind) && hasNode a
-
-abbrev pub atDesk : Ask → Bool
-atDesk a = deskKind (a .kind) && hasNode a
-
 -- ---- the answers
-
--- Of a kind that does not exist, or at a node that it does not call for; 0 for any other.
-abbrev pub barrierOf : Option Kind → ℕ → ℕ → ℕ
-barrierOf none count n = unknownKind
-barrierOf (some k) count n = cond (called (classOf k) count n) stepDone unknownNode
-
-abbrev pub barrier : Ask → ℕ
-barrier a = barrierOf (kindOf (a .kind)) (a .count) (a .number)
 
 -- Kinds 3 to 8, and 11.
 abbrev pub rowAnswer : Ask → ℕ → Node → Stream → Claims → ℕ
@@ -126,7 +99,7 @@ serviceAfter a service = cond (eqb (a .kind) 1) (packMastership (joined (a .numb
 abbrev pub posting : Ask → Mastership → Bool
 posting a service = cond (eqb (a .kind) 1) true (handsOver (a .number) (holdMastership service))
 
--- Kinds 9 and 10, 12 and 13: the wire, and whether the switch runs.
+-- Kinds 9 and 10, 12 and 13: the wire.
 abbrev pub wireAfter : Ask → List Stream → Claims → Wire
 wireAfter a streams claims =
     getD (storeTelling (a .number) (closeRule (a .number) .effect (toldOf (a .count) (a .number) true streams claims)) (a .count) streams claims
@@ -134,6 +107,3 @@ wireAfter a streams claims =
     ∷ record { streams = streams; claims = claims }
     ∷ packWire (cleared (holdWire (a .count) streams claims)) ∷ []) (a .kind - 9)
     (record { streams = streams; claims = claims })
-
-abbrev pub runsAfter : Ask → Bool
-runsAfter a = cond (eqb (a .kind) 13) true (cond (eqb (a .kind) 12) false (a .running))

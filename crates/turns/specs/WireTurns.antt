@@ -28,11 +28,12 @@ use Rattle.moves.specs.Sets.{withWire}
 use Rattle.moves.specs.Stored.{in-order-wire, few}
 use Rattle.moves.specs.Acts.{plain}
 use Rattle.switch.proofs.Callers.{close-tells, close-effect, update-tells, update-effect}
+use Rattle.asks.specs.Classes.{atRow, atDesk, barrierOf, barrier, runsAfter}
+use Rattle.asks.specs.Kinds.{WireKind, close, handleUpdate, shutdown, startup, wire-kind, wire-node, wire-none}
 use Rattle.turns.specs.At.{At}
 use Rattle.turns.specs.Switch.{at-wire, tell-yes, shutdown-yes, startup-yes}
-use Rattle.turns.specs.Turns.{atRow, atDesk, barrierOf, barrier, switchAnswer, wireAnswer, wireAfter, runsAfter}
-use Rattle.turns.specs.Asks.{WireKind, WireAsks, WireGoes, close, handleUpdate, shutdown, startup}
-use Rattle.turns.specs.Kinds.{wire-kind, wire-node, wire-none}
+use Rattle.turns.specs.Turns.{switchAnswer, wireAnswer, wireAfter}
+use Rattle.turns.specs.Asks.{WireAsks, WireGoes}
 use Rattle.turns.specs.Answers.{shutdown-answer, startup-answer}
 use Rattle.turns.specs.Called.{askOf, called-answer, called-leaves}
 

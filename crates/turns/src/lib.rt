@@ -5,10 +5,12 @@ ghost use mathlib.Core.Logic.{_≢_};
 ghost use mathlib.Core.Bool.{cond};
 ghost use Rattle.rules.specs.Codes.{stepDone, notAllowed};
 ghost use Rattle.state.specs.Order.{OrderedNodes};
+ghost use Rattle.asks.specs.Classes.{barrier};
 ghost use Rattle.nodes.specs.Waiting.{Waits};
-ghost use Rattle.switch.specs.Asks.{CanWrite};
-ghost use Rattle.turns.specs.Turns.{hasNode, rowKind, deskKind, atRow, atDesk, barrier, rowAnswer, deskAnswer, switchAnswer, wireAnswer, quiet, toldRow, writtenRow, rowAfter, serviceAfter, posting, wireAfter, runsAfter};
+ghost use Rattle.writing.specs.Asks.{CanWrite};
+ghost use Rattle.turns.specs.Turns.{rowAnswer, deskAnswer, switchAnswer, wireAnswer, quiet, toldRow, writtenRow, rowAfter, serviceAfter, posting, wireAfter};
 ghost use Rattle.turns.specs.Asks.{RowAsks, WireAsks, RowGoes, DeskGoes, WireGoes};
+use asks::Ask;
 use parts::Mastership;
 use parts::Term;
 use state::Claims;
@@ -18,14 +20,6 @@ use state::Wire;
 
 // The kind that concerns a node alone.
 pub const LEARN: u8 = 3;
-
-// A step that is asked for, with the node count and whether the switch runs.
-pub struct Ask {
-    pub count: u8,
-    pub running: bool,
-    pub kind: u8,
-    pub number: u8,
-}
 
 // The write of a step, where it accepted one.
 pub struct Entry {
@@ -40,52 +34,6 @@ pub struct Row {
     pub says: bool,
     pub claims: Claims,
     pub entry: Entry,
-}
-
-// ---- which steps concern what
-
-fn has_node(ask: Ask) -> bool
-    ensures { λ r. ⌜ r ≡ hasNode ask ⌝ }
-{
-    if ask.number == 0 {
-        return false;
-    }
-    ask.number <= ask.count
-}
-
-fn is_row_kind(kind: u8) -> bool
-    ensures { λ r. ⌜ r ≡ rowKind kind ⌝ }
-{
-    if kind == 11 {
-        return true;
-    }
-    if kind < 3 {
-        return false;
-    }
-    kind <= 8
-}
-
-// A node and its stream.
-pub fn at_row(ask: Ask) -> bool
-    ensures { λ r. ⌜ r ≡ atRow ask ⌝ }
-{
-    if is_row_kind(ask.kind) {
-        return has_node(ask);
-    }
-    false
-}
-
-// The service and all nodes.
-pub fn at_desk(ask: Ask) -> bool
-    ensures { λ r. ⌜ r ≡ atDesk ask ⌝ }
-{
-    if ask.kind == 0 {
-        return false;
-    }
-    if 2 < ask.kind {
-        return false;
-    }
-    has_node(ask)
 }
 
 // ---- the answers
@@ -118,7 +66,7 @@ pub fn row_code(ask: Ask, writes: u16, node: Node, stream: Stream, claims: Claim
         ),
         7 => allowed_code(nodes::may_receive_write(stream)),
         8 => switch::connect_code(ask.running, stream),
-        _ => switch::handle_write_code(ask.count, ask.number, ask.running, stream, claims, writes),
+        _ => writing::handle_write_code(ask.count, ask.number, ask.running, stream, claims, writes),
     }
 }
 
@@ -131,29 +79,6 @@ pub fn desk_code(ask: Ask, service: Mastership, nodes: [Node; 8]) -> u8
         return service::join_code(ask.count, ask.number, service, nodes);
     }
     service::leave_code(ask.count, ask.number, service, nodes)
-}
-
-// Whether the kind exists and calls for the node.
-fn barrier(ask: Ask) -> u8
-    ensures { λ r. ⌜ r ≡ barrier ask ⌝ }
-{
-    let kind = ask.kind;
-    if kind == 0 {
-        return parts::UNKNOWN_KIND;
-    }
-    if 13 < kind {
-        return parts::UNKNOWN_KIND;
-    }
-    if kind < 12 {
-        if has_node(ask) {
-            return parts::DONE;
-        }
-        return parts::UNKNOWN_NODE;
-    }
-    if ask.number == 0 {
-        return parts::DONE;
-    }
-    parts::UNKNOWN_NODE
 }
 
 fn switch_code(ask: Ask, streams: [Stream; 8], claims: Claims) -> u8
@@ -174,7 +99,7 @@ pub fn wire_code(ask: Ask, streams: [Stream; 8], claims: Claims) -> u8
     requires { ⌜ WireAsks ask streams claims ⌝ }
     ensures { λ r. ⌜ r ≡ wireAnswer ask streams claims ⌝ }
 {
-    let code = barrier(ask);
+    let code = asks::barrier(ask);
     if code == parts::DONE {
         return switch_code(ask, streams, claims);
     }
@@ -215,7 +140,7 @@ fn written(ask: Ask, node: Node, stream: Stream, claims: Claims) -> Row
     requires { ⌜ CanWrite (ask .count) (ask .number) stream claims ⌝ }
     ensures { λ r. ⌜ r ≡ writtenRow ask node stream claims ⌝ }
 {
-    let handled = switch::handle_write(ask.count, ask.number, stream, claims);
+    let handled = writing::handle_write(ask.count, ask.number, stream, claims);
     let next = handled.stream;
     let last = handled.last;
     let term = handled.term;
@@ -296,17 +221,4 @@ pub fn wire_after(ask: Ask, streams: [Stream; 8], claims: Claims) -> Wire
             claims: claims,
         },
     }
-}
-
-// Whether the switch runs.
-pub fn runs_after(ask: Ask) -> bool
-    ensures { λ r. ⌜ r ≡ runsAfter ask ⌝ }
-{
-    if ask.kind == 13 {
-        return true;
-    }
-    if ask.kind == 12 {
-        return false;
-    }
-    ask.running
 }

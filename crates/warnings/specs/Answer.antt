@@ -10,7 +10,7 @@ use Rattle.report.specs.Report.{partingLine}
 use Rattle.exchanges.specs.Exchange.{allowed, partingOf}
 use Rattle.logtext.specs.Log.{longestText, Row, rowNumbers, Reading, readText}
 use Rattle.doubts.specs.declared.Pair.{Pair}
-use Rattle.exchanges.specs.Rows.{noRow}
+use Rattle.records.specs.Rows.{noRow}
 use Rattle.doubts.specs.Doubts.{doubts}
 use Rattle.warnings.specs.Words as W
 

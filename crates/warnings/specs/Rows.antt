@@ -14,7 +14,7 @@ use Rattle.logtext.specs.Log.{longestText, Row, readText, rowNumbers, numbersIn
 use Rattle.logtext.specs.Known.{few-rows, few-nodes, good-nodes, small-rows}
 use Rattle.logtext.specs.Reads.{rowRoom}
 use Rattle.logtext.specs.declared.Log.{Log}
-use Rattle.exchanges.specs.Rows.{noRow, rowIn, rowsIn, stepsOf}
+use Rattle.records.specs.Rows.{noRow, rowIn, rowsIn, stepsOf}
 use Rattle.exchanges.specs.Bytes.{Small}
 use Rattle.laws.specs.InRange.{All}
 use Rattle.warnings.specs.Words as W

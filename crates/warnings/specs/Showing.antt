@@ -17,7 +17,7 @@ use Rattle.partings.specs.declared.Parting.{Parting}
 use Rattle.seqs.specs.Tables.{table-get}
 use Rattle.logtext.specs.Log.{Row, rowNumbers}
 use Rattle.exchanges.specs.Exchange.{allowed, partingOf}
-use Rattle.exchanges.specs.Rows.{noRow, rowIn, rowsIn}
+use Rattle.records.specs.Rows.{noRow, rowIn, rowsIn}
 use Rattle.doubts.specs.declared.Pair.{Pair}
 use Rattle.doubts.specs.Doubts.{doubts}
 use Rattle.doubts.specs.Found.{mostPairs, Found}

@@ -2,7 +2,7 @@
 ghost use Prim.Native.Nat.{_+_, _*_, _≤_, _<_};
 ghost use lib.ListN.{length, take};
 ghost use Rattle.text.specs.Put.{Put};
-ghost use Rattle.exchanges.specs.Rows.{rowsIn};
+ghost use Rattle.records.specs.Rows.{rowsIn};
 ghost use Rattle.exchanges.specs.Ran.{AtHand};
 ghost use Rattle.doubts.specs.Doubts.{doubts};
 ghost use Rattle.doubts.specs.Found.{mostPairs};

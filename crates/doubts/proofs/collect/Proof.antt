@@ -2,7 +2,7 @@
 use Prim.Native.Nat.{_-_, _*_}
 use lib.ListN.{length-set}
 use Rattle.text.specs.Puts.{put-length}
-use Rattle.exchanges.specs.Rows.{rowsIn}
+use Rattle.records.specs.Rows.{rowsIn}
 use Rattle.doubts.specs.Doubts.{doubtAt}
 use Rattle.doubts.specs.Found.{mostPairs, Collecting, collecting-starts, collecting-full, collecting-more, collecting-ends, doubts-from, found-as}
 use native.Mathlib.Omega.{arith}

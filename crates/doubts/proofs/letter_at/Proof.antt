@@ -1,6 +1,6 @@
 -- `letter_at` meets its contract. Assumes nothing.
 use native.Mathlib.Omega.{arith}
-use Rattle.exchanges.specs.Rows.{rowIn}
+use Rattle.records.specs.Rows.{rowIn}
 use Rattle.doubts.specs.Search.{letter-known, letter-unknown, letter-fits}
 use borrow.Author.Needs.{needs}
 use Rattle.doubts.proofs.letter_at.Statement.{statement}

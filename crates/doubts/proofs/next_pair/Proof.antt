@@ -1,7 +1,7 @@
 -- `next_pair` meets its contract. Assumes nothing.
 use mathlib.Core.Path.{refl}
 use Prim.Native.Nat.{_-_}
-use Rattle.exchanges.specs.Rows.{rowsIn}
+use Rattle.records.specs.Rows.{rowsIn}
 use Rattle.doubts.specs.Doubts.{doubtAt}
 use Rattle.doubts.specs.Search.{Reached, reached-end, reached-hit, reached-more}
 use borrow.Author.Needs.{needs}

@@ -2,7 +2,7 @@
 use mathlib.Core.Path.{sym, _∙_}
 use Prim.Native.Nat.{_-_}
 use Rattle.places.specs.Seek.{Seeking, seek-starts, seek-more, seek-hits, seek-ends, seek-over}
-use Rattle.exchanges.specs.Rows.{rowsIn}
+use Rattle.records.specs.Rows.{rowsIn}
 use Rattle.doubts.specs.Doubts.{doubtAt}
 use Rattle.doubts.specs.Index.{too-late}
 use Rattle.doubts.specs.Search.{doubt-in-rows}

@@ -1,6 +1,6 @@
 -- `allowed` meets its contract. Assumes nothing.
 use mathlib.Core.Path.{_∙_}
-use Rattle.exchanges.specs.Rows.{rowsIn}
+use Rattle.records.specs.Rows.{rowsIn}
 use Rattle.exchanges.specs.Passing.{allowed-up, allowed-down}
 use borrow.Author.Needs.{needs}
 use Rattle.exchanges.proofs.allowed.Statement.{statement}

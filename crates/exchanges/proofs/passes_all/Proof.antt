@@ -5,7 +5,7 @@ use Prim.Native.Nat.{_-_}
 use lib.ListN.{getD}
 use borrow.Author.Tests.{not-true, not-false}
 use Rattle.places.specs.Seek.{Seeking, seek-starts, seek-more}
-use Rattle.exchanges.specs.Rows.{noRow, rowsIn}
+use Rattle.records.specs.Rows.{noRow, rowsIn}
 use Rattle.exchanges.specs.Exchange.{mayPass}
 use Rattle.exchanges.specs.Passing.{passed-all, stopped-at, pass-in-rows}
 use borrow.Author.Needs.{needs}

@@ -2,8 +2,8 @@
 use borrow.Author.Needs.{needs}
 use borrow.Author.Tests.{le-leb}
 use Rattle.seqs.specs.Tests.{tests}
+use Rattle.queues.specs.Each.{told}
 use Rattle.ranges.specs.Tests.{coreTest}
-use Rattle.ranges.specs.Each.{told}
 use Rattle.ranges.proofs.core_fits.Statement.{statement}
 use Rattle.ranges.proofs.core_fits.Tie as tie
 

@@ -6,8 +6,8 @@ use Rattle.rules.specs.Limits.{mostNodes}
 use Rattle.laws.specs.Tests.{is-yes, is-within}
 use Rattle.state.specs.Tidy.{stateFits}
 use Rattle.bridge.proofs.Sizes.{sized}
+use Rattle.queues.specs.Each.{told}
 use Rattle.ranges.specs.Tests.{stateTest}
-use Rattle.ranges.specs.Each.{told}
 use Rattle.ranges.specs.Agree.{state-agree}
 use Rattle.ranges.proofs.in_range.Statement.{statement}
 use Rattle.ranges.proofs.in_range.Tie as tie

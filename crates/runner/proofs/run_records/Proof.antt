@@ -10,8 +10,8 @@ use Rattle.state.specs.declared.Body.{Body}
 use Rattle.state.specs.declared.Table.{Table}
 use Rattle.moves.specs.Sets.{withWire}
 use Rattle.moves.specs.Stored.{few, in-order-nodes}
-use Rattle.turns.specs.declared.Ask.{Ask}
-use Rattle.turns.specs.Turns.{atRow, atDesk}
+use Rattle.asks.specs.declared.Ask.{Ask}
+use Rattle.asks.specs.Classes.{atRow, atDesk}
 use Rattle.turns.specs.Called.{askOf}
 use Rattle.turns.specs.At.{At}
 use Rattle.turns.specs.Nodes.{node-ordered}

@@ -3,7 +3,7 @@ use native.Mathlib.Omega.{arith}
 use Rattle.rules.specs.Step.{fresh}
 use Rattle.stepper.specs.Public.{freshened}
 use Rattle.stepper.specs.Settling.{blankState}
-use Rattle.turns.specs.Kinds.{inside, under, over}
+use Rattle.asks.specs.Kinds.{inside, under, over}
 use borrow.Author.Needs.{needs}
 use Rattle.stepper.proofs.fresh.Statement.{statement}
 use Rattle.stepper.proofs.fresh.Tie as tie

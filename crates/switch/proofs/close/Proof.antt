@@ -8,7 +8,7 @@ use Rattle.seqs.specs.Columns.{column}
 use Rattle.seqs.specs.Tables.{table}
 use Rattle.state.specs.Hold.{idAt, openAt}
 use Rattle.state.specs.declared.Wire.{Wire}
-use Rattle.switch.specs.Does.{tellRow}
+use Rattle.streams.specs.Does.{tellRow}
 use Rattle.switch.proofs.Closing.{shifts, closed-quiet, closed-told, close-roomy}
 use Rattle.switch.proofs.close.Statement.{statement}
 use Rattle.switch.proofs.close.Tie as tie

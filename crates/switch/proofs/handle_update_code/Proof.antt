@@ -2,8 +2,8 @@
 use mathlib.Core.Path.{sym, _∙_}
 use mathlib.Core.Bool.{true, false}
 use borrow.Author.Needs.{needs}
+use Rattle.streams.proofs.Waiting.{not-update}
 use Rattle.switch.proofs.Closing.{below}
-use Rattle.switch.proofs.Waiting.{not-update}
 use Rattle.switch.proofs.Updating.{update-at, update-answer, no-update}
 use Rattle.switch.proofs.handle_update_code.Statement.{statement}
 use Rattle.switch.proofs.handle_update_code.Tie as tie

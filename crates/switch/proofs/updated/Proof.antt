@@ -17,7 +17,8 @@ use Rattle.state.specs.Hold.{idAt, openAt}
 use Rattle.state.specs.declared.Claims.{Claims}
 use Rattle.state.specs.declared.Stream.{Stream}
 use Rattle.state.specs.declared.Wire.{Wire}
-use Rattle.switch.specs.Does.{told, withClaim, tellRow}
+use Rattle.streams.specs.Does.{told, tellRow}
+use Rattle.switch.specs.Does.{withClaim}
 use Rattle.switch.proofs.Updating.{has-head, head-is, shifts, ids-then, claimsThen, updated-all, updated-one}
 use Rattle.switch.proofs.updated.Statement.{statement}
 use Rattle.switch.proofs.updated.Tie as tie

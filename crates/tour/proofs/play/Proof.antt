@@ -7,10 +7,13 @@ use Rattle.tour.proofs.play.Statement.{statement}
 use Rattle.tour.proofs.play.Tie as tie
 
 abbrev Inv-loop : tie.InvT-loop
-Inv-loop steps state₀ i₀ t7 t8 state i = i ≤ length steps + 1
+Inv-loop words steps state₀ i₀ t8 t9 state i = i ≤ length steps + 1
 
 abbrev μ-loop : tie.MeasureT-loop
-μ-loop steps state₀ i₀ t7 t8 state i = length steps + 1 - i
+μ-loop words steps state₀ i₀ t8 t9 state i = length steps + 1 - i
+
+write-all-requires : tie.Need-write-all-requires Inv-loop μ-loop
+write-all-requires c κs = search needs
 
 loop-holds : tie.Need-loop-holds Inv-loop μ-loop
 loop-holds c = search needs
@@ -30,17 +33,14 @@ shared-slice-read-step-2 c = search needs
 step-requires : tie.Need-step-requires Inv-loop μ-loop
 step-requires c κs = search needs
 
-slice-aggregate-write-all : tie.Need-slice-aggregate-write-all Inv-loop μ-loop
-slice-aggregate-write-all c = search needs
+slice-aggregate-print-number : tie.Need-slice-aggregate-print-number Inv-loop μ-loop
+slice-aggregate-print-number c = search needs
 
-write-all-requires : tie.Need-write-all-requires Inv-loop μ-loop
-write-all-requires c κs = search needs
+cast-print-number : tie.Need-cast-print-number Inv-loop μ-loop
+cast-print-number c = search needs
 
-cast-print-decimal : tie.Need-cast-print-decimal Inv-loop μ-loop
-cast-print-decimal c = search needs
-
-print-decimal-requires : tie.Need-print-decimal-requires Inv-loop μ-loop
-print-decimal-requires c κs = search needs
+print-number-requires : tie.Need-print-number-requires Inv-loop μ-loop
+print-number-requires c κs = search needs
 
 add-i : tie.Need-add-i Inv-loop μ-loop
 add-i c = search needs
@@ -51,8 +51,8 @@ loop-less c = search needs
 loop-again : tie.Need-loop-again Inv-loop μ-loop
 loop-again c = search needs
 
-slice-aggregate-write-all-2 : tie.Need-slice-aggregate-write-all-2 Inv-loop μ-loop
-slice-aggregate-write-all-2 c = search needs
+slice-aggregate-write-all : tie.Need-slice-aggregate-write-all Inv-loop μ-loop
+slice-aggregate-write-all c = search needs
 
 write-all-requires-2 : tie.Need-write-all-requires-2 Inv-loop μ-loop
 write-all-requires-2 c κs = search needs
@@ -66,19 +66,19 @@ play-spec =
     (tie.spec
     Inv-loop
     μ-loop
+    write-all-requires
     loop-holds
     add-loop
     shared-slice-read-step
     add-step
     shared-slice-read-step-2
     step-requires
-    slice-aggregate-write-all
-    write-all-requires
-    cast-print-decimal
-    print-decimal-requires
+    slice-aggregate-print-number
+    cast-print-number
+    print-number-requires
     add-i
     loop-less
     loop-again
-    slice-aggregate-write-all-2
+    slice-aggregate-write-all
     write-all-requires-2
     returns)

@@ -6,10 +6,10 @@ use Rattle.tour.proofs.print_writes.Statement.{statement}
 use Rattle.tour.proofs.print_writes.Tie as tie
 
 abbrev Inv-loop : tie.InvT-loop
-Inv-loop history len i₀ t6 t7 t8 i = i ≤ 8
+Inv-loop history len i₀ i = i ≤ 8
 
 abbrev μ-loop : tie.MeasureT-loop
-μ-loop history len i₀ t6 t7 t8 i = 8 - i
+μ-loop history len i₀ i = 8 - i
 
 cast-len : tie.Need-cast-len Inv-loop μ-loop
 cast-len c = search needs
@@ -17,41 +17,14 @@ cast-len c = search needs
 loop-holds : tie.Need-loop-holds Inv-loop μ-loop
 loop-holds c = search needs
 
-mul-write : tie.Need-mul-write Inv-loop μ-loop
-mul-write c = search needs
+mul-print-write : tie.Need-mul-print-write Inv-loop μ-loop
+mul-print-write c = search needs
 
-element-copy-out-write : tie.Need-element-copy-out-write Inv-loop μ-loop
-element-copy-out-write c = search needs
+element-copy-out-print-write : tie.Need-element-copy-out-print-write Inv-loop μ-loop
+element-copy-out-print-write c = search needs
 
-slice-aggregate-write-all : tie.Need-slice-aggregate-write-all Inv-loop μ-loop
-slice-aggregate-write-all c = search needs
-
-write-all-requires : tie.Need-write-all-requires Inv-loop μ-loop
-write-all-requires c κs = search needs
-
-cast-print-decimal : tie.Need-cast-print-decimal Inv-loop μ-loop
-cast-print-decimal c = search needs
-
-print-decimal-requires : tie.Need-print-decimal-requires Inv-loop μ-loop
-print-decimal-requires c κs = search needs
-
-slice-aggregate-write-all-2 : tie.Need-slice-aggregate-write-all-2 Inv-loop μ-loop
-slice-aggregate-write-all-2 c = search needs
-
-write-all-requires-2 : tie.Need-write-all-requires-2 Inv-loop μ-loop
-write-all-requires-2 c κs = search needs
-
-cast-print-decimal-2 : tie.Need-cast-print-decimal-2 Inv-loop μ-loop
-cast-print-decimal-2 c = search needs
-
-print-decimal-requires-2 : tie.Need-print-decimal-requires-2 Inv-loop μ-loop
-print-decimal-requires-2 c κs = search needs
-
-slice-aggregate-write-all-3 : tie.Need-slice-aggregate-write-all-3 Inv-loop μ-loop
-slice-aggregate-write-all-3 c = search needs
-
-write-all-requires-3 : tie.Need-write-all-requires-3 Inv-loop μ-loop
-write-all-requires-3 c κs = search needs
+print-write-requires : tie.Need-print-write-requires Inv-loop μ-loop
+print-write-requires c κs = search needs
 
 add-i : tie.Need-add-i Inv-loop μ-loop
 add-i c = search needs
@@ -73,18 +46,9 @@ print-writes-spec =
     μ-loop
     cast-len
     loop-holds
-    mul-write
-    element-copy-out-write
-    slice-aggregate-write-all
-    write-all-requires
-    cast-print-decimal
-    print-decimal-requires
-    slice-aggregate-write-all-2
-    write-all-requires-2
-    cast-print-decimal-2
-    print-decimal-requires-2
-    slice-aggregate-write-all-3
-    write-all-requires-3
+    mul-print-write
+    element-copy-out-print-write
+    print-write-requires
     add-i
     loop-less
     loop-again

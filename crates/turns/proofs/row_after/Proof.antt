@@ -1,8 +1,8 @@
 -- `row_after` meets its contract. Assumes nothing.
 use mathlib.Core.Path.{ap, _∙_}
 use mathlib.Core.Logic.{inl, inr}
+use Rattle.asks.specs.Kinds.{last-row}
 use Rattle.turns.specs.Turns.{quiet}
-use Rattle.turns.specs.Kinds.{last-row}
 use borrow.Author.Needs.{needs}
 use Rattle.turns.proofs.row_after.Statement.{statement}
 use Rattle.turns.proofs.row_after.Tie as tie

@@ -5,7 +5,7 @@ use lib.Dec.{leb}
 use Rattle.rules.specs.Codes.{stepDone, notAllowed}
 use Rattle.rules.specs.Limits.{queueLength}
 use Rattle.nodes.specs.Waiting.{sendAnswer}
-use Rattle.turns.specs.Kinds.{last-row}
+use Rattle.asks.specs.Kinds.{last-row}
 use Rattle.turns.specs.Answers.{learn-answer, send-update-answer, receive-update-answer, send-write-answer, receive-write-answer}
 use borrow.Author.Needs.{needs}
 use Rattle.turns.proofs.row_code.Statement.{statement}

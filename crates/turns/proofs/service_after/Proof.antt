@@ -1,6 +1,6 @@
 -- `service_after` meets its contract. Assumes nothing.
 use borrow.Author.Tests.{eq-eqb, ne-eqb}
-use Rattle.turns.specs.Kinds.{last-desk}
+use Rattle.asks.specs.Kinds.{last-desk}
 use Rattle.turns.proofs.service_after.Statement.{statement}
 use Rattle.turns.proofs.service_after.Tie as tie
 

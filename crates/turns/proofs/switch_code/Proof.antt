@@ -1,7 +1,7 @@
 -- `switch_code` meets its contract. Assumes nothing.
 use mathlib.Core.Path.{_∙_}
 use mathlib.Core.Logic.{inl, inr}
-use Rattle.turns.specs.Kinds.{last-wire}
+use Rattle.asks.specs.Kinds.{last-wire}
 use Rattle.turns.specs.Answers.{close-answer, shutdown-answer, startup-answer}
 use borrow.Author.Needs.{needs}
 use Rattle.turns.proofs.switch_code.Statement.{statement}

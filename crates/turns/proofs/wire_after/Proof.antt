@@ -1,6 +1,6 @@
 -- `wire_after` meets its contract. Assumes nothing.
 use mathlib.Core.Path.{refl}
-use Rattle.turns.specs.Kinds.{last-wire}
+use Rattle.asks.specs.Kinds.{last-wire}
 use borrow.Author.Needs.{needs}
 use Rattle.turns.proofs.wire_after.Statement.{statement}
 use Rattle.turns.proofs.wire_after.Tie as tie

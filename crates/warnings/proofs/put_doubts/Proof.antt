@@ -3,7 +3,7 @@ use Prim.Native.Nat.{_-_}
 use lib.ListN.{take}
 use Rattle.text.specs.Line.{spaced, line}
 use Rattle.text.specs.Puts.{put-length}
-use Rattle.exchanges.specs.Rows.{rowsIn}
+use Rattle.records.specs.Rows.{rowsIn}
 use Rattle.doubts.specs.Doubts.{doubts}
 use Rattle.doubts.specs.Found.{mostPairs}
 use Rattle.doubts.specs.Inside.{doubts-inside}

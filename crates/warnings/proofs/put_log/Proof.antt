@@ -4,7 +4,7 @@ use native.Mathlib.Omega.{arith}
 use Rattle.text.specs.Line.{spaced, line}
 use Rattle.text.specs.Puts.{put-length}
 use Rattle.report.specs.Says.{put-as}
-use Rattle.exchanges.specs.Rows.{rowsIn}
+use Rattle.records.specs.Rows.{rowsIn}
 use Rattle.doubts.specs.Doubts.{doubts}
 use Rattle.warnings.specs.Showing.{says, log-same, log-shown}
 use borrow.Author.Needs.{needs}

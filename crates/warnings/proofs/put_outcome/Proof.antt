@@ -2,7 +2,7 @@
 use native.Mathlib.Omega.{arith}
 use Rattle.report.specs.Says.{put-as}
 use Rattle.text.specs.Line.{spaced, line}
-use Rattle.exchanges.specs.Rows.{rowsIn}
+use Rattle.records.specs.Rows.{rowsIn}
 use Rattle.warnings.specs.Showing.{outcome-up, outcome-down, outcome-open}
 use borrow.Author.Needs.{needs}
 use Rattle.warnings.proofs.put_outcome.Statement.{statement}

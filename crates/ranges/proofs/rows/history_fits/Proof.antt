@@ -9,8 +9,9 @@ use Rattle.rules.specs.Range.{each}
 use Rattle.seqs.specs.Tests.{tests}
 use Rattle.state.specs.Hold.{noWrite}
 use Rattle.state.specs.Tidy.{blankWrite}
-use Rattle.ranges.specs.Tests.{place, placesTest, writeTest, historyTest}
-use Rattle.ranges.specs.Each.{told, each-more, each-not}
+use Rattle.queues.specs.Tests.{place, placesTest}
+use Rattle.queues.specs.Each.{told, each-more, each-not}
+use Rattle.ranges.specs.Tests.{writeTest, historyTest}
 use Rattle.ranges.proofs.rows.history_fits.Statement.{statement}
 use Rattle.ranges.proofs.rows.history_fits.Tie as tie
 

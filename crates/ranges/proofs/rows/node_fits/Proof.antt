@@ -1,7 +1,7 @@
 -- `node_fits` meets its contract. Assumes nothing.
 use borrow.Author.Needs.{needs}
+use Rattle.queues.specs.Each.{told}
 use Rattle.ranges.specs.Tests.{nodeTest}
-use Rattle.ranges.specs.Each.{told}
 use Rattle.ranges.proofs.rows.node_fits.Statement.{statement}
 use Rattle.ranges.proofs.rows.node_fits.Tie as tie
 

@@ -6,8 +6,9 @@ use native.Mathlib.Omega.{arith}
 use borrow.Author.Needs.{needs}
 use Rattle.rules.specs.Range.{each}
 use Rattle.state.specs.Order.{pastNode}
-use Rattle.ranges.specs.Tests.{place, nodeTest, blankNodeTest, nodesTest}
-use Rattle.ranges.specs.Each.{told, each-more, each-not}
+use Rattle.queues.specs.Tests.{place}
+use Rattle.queues.specs.Each.{told, each-more, each-not}
+use Rattle.ranges.specs.Tests.{nodeTest, blankNodeTest, nodesTest}
 use Rattle.ranges.proofs.rows.nodes_fit.Statement.{statement}
 use Rattle.ranges.proofs.rows.nodes_fit.Tie as tie
 

@@ -1,7 +1,7 @@
 -- `queues_fit` meets its contract. Assumes nothing.
 use borrow.Author.Needs.{needs}
+use Rattle.queues.specs.Each.{told}
 use Rattle.ranges.specs.Tests.{queuesTest}
-use Rattle.ranges.specs.Each.{told}
 use Rattle.ranges.proofs.rows.queues_fit.Statement.{statement}
 use Rattle.ranges.proofs.rows.queues_fit.Tie as tie
 

@@ -1,8 +1,8 @@
 -- `stream_fits` meets its contract. Assumes nothing.
 use borrow.Author.Needs.{needs}
 use Rattle.seqs.specs.Tests.{tests}
+use Rattle.queues.specs.Each.{told}
 use Rattle.ranges.specs.Tests.{streamTest}
-use Rattle.ranges.specs.Each.{told}
 use Rattle.ranges.proofs.rows.stream_fits.Statement.{statement}
 use Rattle.ranges.proofs.rows.stream_fits.Tie as tie
 

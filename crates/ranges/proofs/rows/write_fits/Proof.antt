@@ -1,7 +1,7 @@
 -- `write_fits` meets its contract. Assumes nothing.
 use borrow.Author.Needs.{needs}
 use Rattle.rules.specs.Range.{writeFits}
-use Rattle.ranges.specs.Each.{told}
+use Rattle.queues.specs.Each.{told}
 use Rattle.ranges.proofs.rows.write_fits.Statement.{statement}
 use Rattle.ranges.proofs.rows.write_fits.Tie as tie
 

@@ -1,0 +1,44 @@
+-- `barrier` meets its contract. Assumes nothing.
+use mathlib.Core.Path.{sym, ap, _∙_}
+use mathlib.Core.Bool.{Bool, cond}
+use native.Mathlib.Omega.{arith}
+use borrow.Author.Tests.{eq-eqb, ne-eqb}
+use Rattle.rules.specs.Codes.{stepDone, unknownNode}
+use Rattle.asks.specs.Kinds.{no-kind, no-barrier, node-barrier, power-barrier}
+use borrow.Author.Needs.{needs}
+use Rattle.asks.proofs.barrier.Statement.{statement}
+use Rattle.asks.proofs.barrier.Tie as tie
+
+returns : tie.Need-returns
+returns c = search needs
+
+returns-2 : tie.Need-returns-2
+returns-2 c =
+    let a = c .before .before .args .ask in
+    sym (no-barrier (a .count) (a .number) (a .kind) (no-kind (a .kind) (c .if2 .taken)))
+
+has-node-requires : tie.Need-has-node-requires
+has-node-requires c κs = search needs
+
+returns-3 : tie.Need-returns-3
+returns-3 c =
+    let a = c .before .before .before .before .before .args .ask in
+    sym (node-barrier (a .count) (a .number) (a .kind) (omega arith) (omega arith) ∙ ap (λ (x : Bool). cond x stepDone unknownNode) (sym (c .before .has-node .ensures) ∙ c .if4 .taken))
+
+returns-4 : tie.Need-returns-4
+returns-4 c =
+    let a = c .before .before .before .before .before .args .ask in
+    sym (node-barrier (a .count) (a .number) (a .kind) (omega arith) (omega arith) ∙ ap (λ (x : Bool). cond x stepDone unknownNode) (sym (c .before .has-node .ensures) ∙ c .if4 .left))
+
+returns-5 : tie.Need-returns-5
+returns-5 c =
+    let a = c .before .before .before .before .before .args .ask in
+    sym (power-barrier (a .count) (a .number) (a .kind) (omega arith) (omega arith) ∙ ap (λ (x : Bool). cond x stepDone unknownNode) (eq-eqb (a .number) 0 (c .if5 .taken)))
+
+returns-6 : tie.Need-returns-6
+returns-6 c =
+    let a = c .before .before .before .before .before .args .ask in
+    sym (power-barrier (a .count) (a .number) (a .kind) (omega arith) (omega arith) ∙ ap (λ (x : Bool). cond x stepDone unknownNode) (ne-eqb (a .number) 0 (c .if5 .left)))
+
+pub barrier-spec : {M : Type 1} → statement M
+barrier-spec = tie.close (tie.spec returns returns-2 has-node-requires returns-3 returns-4 returns-5 returns-6)

@@ -1,0 +1,37 @@
+-- Which steps concern what, which exist, and after which the switch runs: by the kind, the node and the node count alone.
+use mathlib.Core.Bool.{Bool, true, false, cond, _&&_, _||_}
+use mathlib.Core.Option.{Option, none, some}
+use Prim.Native.Nat.{ℕ}
+use lib.Dec.{eqb}
+use Rattle.rules.specs.Codes.{stepDone, unknownKind, unknownNode}
+use Rattle.rules.specs.Range.{within}
+use Rattle.rules.specs.Rules.{Kind, classOf}
+use Rattle.rules.specs.Step.{kindOf, called}
+use Rattle.asks.specs.declared.Ask.{Ask}
+
+abbrev pub hasNode : Ask → Bool
+hasNode a = within 1 (a .count) (a .number)
+
+abbrev pub rowKind : ℕ → Bool
+rowKind k = eqb k 11 || within 3 8 k
+
+abbrev pub deskKind : ℕ → Bool
+deskKind k = within 1 2 k
+
+abbrev pub atRow : Ask → Bool
+atRow a = rowKind (a .kind) && hasNode a
+
+abbrev pub atDesk : Ask → Bool
+atDesk a = deskKind (a .kind) && hasNode a
+
+-- Of a kind that does not exist, or at a node that it does not call for; 0 for any other.
+abbrev pub barrierOf : Option Kind → ℕ → ℕ → ℕ
+barrierOf none count n = unknownKind
+barrierOf (some k) count n = cond (called (classOf k) count n) stepDone unknownNode
+
+abbrev pub barrier : Ask → ℕ
+barrier a = barrierOf (kindOf (a .kind)) (a .count) (a .number)
+
+-- Kinds 12 and 13 alone change it.
+abbrev pub runsAfter : Ask → Bool
+runsAfter a = cond (eqb (a .kind) 13) true (cond (eqb (a .kind) 12) false (a .running))

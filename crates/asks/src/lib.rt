@@ -1,0 +1,91 @@
+// A step that is asked for: which part of the state it concerns, whether it exists, and whether the switch runs after it.
+ghost use mathlib.Core.Path.{_≡_};
+ghost use Rattle.asks.specs.Classes.{hasNode, rowKind, atRow, atDesk, barrier, runsAfter};
+
+// A step that is asked for, with the node count and whether the switch runs.
+pub struct Ask {
+    pub count: u8,
+    pub running: bool,
+    pub kind: u8,
+    pub number: u8,
+}
+
+fn has_node(ask: Ask) -> bool
+    ensures { λ r. ⌜ r ≡ hasNode ask ⌝ }
+{
+    if ask.number == 0 {
+        return false;
+    }
+    ask.number <= ask.count
+}
+
+fn is_row_kind(kind: u8) -> bool
+    ensures { λ r. ⌜ r ≡ rowKind kind ⌝ }
+{
+    if kind == 11 {
+        return true;
+    }
+    if kind < 3 {
+        return false;
+    }
+    kind <= 8
+}
+
+// A node and its stream.
+pub fn at_row(ask: Ask) -> bool
+    ensures { λ r. ⌜ r ≡ atRow ask ⌝ }
+{
+    if is_row_kind(ask.kind) {
+        return has_node(ask);
+    }
+    false
+}
+
+// The service and all nodes.
+pub fn at_desk(ask: Ask) -> bool
+    ensures { λ r. ⌜ r ≡ atDesk ask ⌝ }
+{
+    if ask.kind == 0 {
+        return false;
+    }
+    if 2 < ask.kind {
+        return false;
+    }
+    has_node(ask)
+}
+
+// Whether the kind exists and calls for the node.
+pub fn barrier(ask: Ask) -> u8
+    ensures { λ r. ⌜ r ≡ barrier ask ⌝ }
+{
+    let kind = ask.kind;
+    if kind == 0 {
+        return parts::UNKNOWN_KIND;
+    }
+    if 13 < kind {
+        return parts::UNKNOWN_KIND;
+    }
+    if kind < 12 {
+        if has_node(ask) {
+            return parts::DONE;
+        }
+        return parts::UNKNOWN_NODE;
+    }
+    if ask.number == 0 {
+        return parts::DONE;
+    }
+    parts::UNKNOWN_NODE
+}
+
+// Whether the switch runs after the step.
+pub fn runs_after(ask: Ask) -> bool
+    ensures { λ r. ⌜ r ≡ runsAfter ask ⌝ }
+{
+    if ask.kind == 13 {
+        return true;
+    }
+    if ask.kind == 12 {
+        return false;
+    }
+    ask.running
+}

@@ -1,0 +1,193 @@
+// A step on a body, a state without its history: the answers in their order, and what is left.
+ghost use mathlib.Core.Path.{_≡_};
+ghost use mathlib.Core.Bool.{true, false};
+ghost use mathlib.Core.List.{List};
+ghost use Prim.Native.Nat.{_≤_};
+ghost use lib.ListN.{length};
+ghost use Rattle.rules.specs.Limits.{mostNodes};
+ghost use Rattle.rules.specs.State as S;
+ghost use Rattle.rules.specs.Step.{kindOf, ofKind};
+ghost use Rattle.moves.specs.Bodies.{stateOf, Ready, Leaves};
+ghost use Rattle.moves.specs.Sets.{withDesk, withNode, withWire};
+ghost use Rattle.moves.specs.Acts.{plain};
+ghost use Rattle.asks.specs.Classes.{atRow, atDesk};
+ghost use Rattle.turns.specs.Called.{askOf};
+ghost use Rattle.turns.specs.RowTurns.{rowMoved};
+use asks::Ask;
+use parts::Mastership;
+use parts::Term;
+use state::Body;
+use state::Moved;
+use state::Node;
+use state::Wire;
+use turns::Row;
+
+// The body stays as it is, or was changed, and no write was accepted.
+fn plain(code: u8, body: Body) -> Moved
+    ensures { λ r. ⌜ r ≡ plain code body ⌝ }
+{
+    Moved {
+        code: code,
+        body: body,
+        accepted: false,
+        term: Term(0),
+    }
+}
+
+fn with_node(body: Body, number: u8, node: Node) -> Body
+    requires { ⌜ (1 ≤ number) × (number ≤ mostNodes) ⌝ }
+    ensures { λ r. ⌜ r ≡ withNode number node body ⌝ }
+{
+    let at = (number - 1) as usize;
+    let mut core = body.core;
+    core.nodes[at] = node;
+    let mut next = body;
+    next.core = core;
+    next
+}
+
+fn with_desk(body: Body, service: Mastership, nodes: [Node; 8]) -> Body
+    ensures { λ r. ⌜ r ≡ withDesk service nodes body ⌝ }
+{
+    let mut core = body.core;
+    core.service = service;
+    core.nodes = nodes;
+    let mut next = body;
+    next.core = core;
+    next
+}
+
+fn with_wire(body: Body, running: bool, wire: Wire) -> Body
+    ensures { λ r. ⌜ r ≡ withWire running (wire .streams) (wire .claims) body ⌝ }
+{
+    let streams = wire.streams;
+    let claims = wire.claims;
+    let mut core = body.core;
+    core.streams = streams;
+    core.claims = claims;
+    Body {
+        count: body.count,
+        running: running,
+        core: core,
+    }
+}
+
+// What a step at a row left, put into the body.
+fn with_row(body: Body, number: u8, row: Row) -> Moved
+    requires { ⌜ (1 ≤ number) × (number ≤ mostNodes) ⌝ }
+    ensures { λ r. ⌜ r ≡ rowMoved body number row ⌝ }
+{
+    let at = (number - 1) as usize;
+    let stream = row.stream;
+    let claims = row.claims;
+    let entry = row.entry;
+    let term = entry.term;
+    let mut core = body.core;
+    core.nodes[at].says = row.says;
+    core.streams[at] = stream;
+    core.claims = claims;
+    let mut next = body;
+    next.core = core;
+    Moved {
+        code: parts::DONE,
+        body: next,
+        accepted: entry.accepted,
+        term: term,
+    }
+}
+
+// A step at a node and its stream. The history holds `writes`.
+fn at_row(body: Body, writes: u16, kind: u8, number: u8) -> Moved
+    requires { ⌜ Ready body × (atRow (askOf body kind number) ≡ true) ⌝ }
+    ensures { λ r. ⌜ ((history : List S.Write) → length history ≡ writes → Leaves number history (ofKind (kindOf kind) number (stateOf body history)) r) ⌝ }
+{
+    let ask = Ask {
+        count: body.count,
+        running: body.running,
+        kind: kind,
+        number: number,
+    };
+    let at = (number - 1) as usize;
+    let core = body.core;
+    let node = core.nodes[at];
+    let stream = core.streams[at];
+    let claims = core.claims;
+    let code = turns::row_code(ask, writes, node, stream, claims);
+    if code == parts::DONE {
+        if kind == turns::LEARN {
+            let next = nodes::learn(node);
+            return plain(parts::DONE, with_node(body, number, next));
+        }
+        let row = turns::row_after(ask, node, stream, claims);
+        return with_row(body, number, row);
+    }
+    plain(code, body)
+}
+
+// A step of the service.
+fn at_desk(body: Body, kind: u8, number: u8) -> Moved
+    requires { ⌜ Ready body × (atDesk (askOf body kind number) ≡ true) ⌝ }
+    ensures { λ r. ⌜ ((history : List S.Write) → Leaves number history (ofKind (kindOf kind) number (stateOf body history)) r) ⌝ }
+{
+    let ask = Ask {
+        count: body.count,
+        running: body.running,
+        kind: kind,
+        number: number,
+    };
+    let core = body.core;
+    let service = core.service;
+    let nodes = core.nodes;
+    let code = turns::desk_code(ask, service, nodes);
+    if code == parts::DONE {
+        let next = turns::service_after(ask, service);
+        if turns::posts(ask, service) {
+            let told = service::post(body.count, nodes, next);
+            return plain(parts::DONE, with_desk(body, next, told));
+        }
+        return plain(parts::DONE, with_desk(body, next, nodes));
+    }
+    plain(code, body)
+}
+
+// A step of the switch and all streams, or one that nothing calls for.
+fn at_wire(body: Body, kind: u8, number: u8) -> Moved
+    requires { ⌜ Ready body × (atRow (askOf body kind number) ≡ false) × (atDesk (askOf body kind number) ≡ false) ⌝ }
+    ensures { λ r. ⌜ ((history : List S.Write) → Leaves number history (ofKind (kindOf kind) number (stateOf body history)) r) ⌝ }
+{
+    let ask = Ask {
+        count: body.count,
+        running: body.running,
+        kind: kind,
+        number: number,
+    };
+    let core = body.core;
+    let streams = core.streams;
+    let claims = core.claims;
+    let code = turns::wire_code(ask, streams, claims);
+    if code == parts::DONE {
+        let wire = turns::wire_after(ask, streams, claims);
+        return plain(parts::DONE, with_wire(body, asks::runs_after(ask), wire));
+    }
+    plain(code, body)
+}
+
+// A step of a state in range, which it does not test: answers 0 and 2 to 7. The history holds `writes`.
+pub fn advance(body: Body, writes: u16, kind: u8, number: u8) -> Moved
+    requires { ⌜ Ready body ⌝ }
+    ensures { λ r. ⌜ ((history : List S.Write) → length history ≡ writes → Leaves number history (ofKind (kindOf kind) number (stateOf body history)) r) ⌝ }
+{
+    let ask = Ask {
+        count: body.count,
+        running: body.running,
+        kind: kind,
+        number: number,
+    };
+    if asks::at_row(ask) {
+        return at_row(body, writes, kind, number);
+    }
+    if asks::at_desk(ask) {
+        return at_desk(body, kind, number);
+    }
+    at_wire(body, kind, number)
+}

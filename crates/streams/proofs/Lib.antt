@@ -1,0 +1,3 @@
+pub mod Passing
+pub mod Answers
+pub mod Waiting

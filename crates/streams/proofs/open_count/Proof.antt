@@ -1,0 +1,18 @@
+-- `open_count` meets its contract. Assumes nothing.
+use mathlib.Core.Path.{ap, _∙_}
+use lib.Count.{ones}
+use borrow.Author.Needs.{needs}
+use Rattle.seqs.specs.Columns.{column}
+use Rattle.words.specs.Flags.{ones-count}
+use Rattle.state.specs.Hold.{openAt}
+use Rattle.streams.proofs.open_count.Statement.{statement}
+use Rattle.streams.proofs.open_count.Tie as tie
+
+open-word-requires : tie.Need-open-word-requires
+open-word-requires c κs = search needs
+
+returns : tie.Need-returns
+returns c = ap ones (c .open-word .ensures) ∙ ones-count (column openAt (c .before .args .count) (c .before .args .streams))
+
+pub open-count-spec : {M : Type 1} → statement M
+open-count-spec = tie.close (tie.spec open-word-requires returns)
