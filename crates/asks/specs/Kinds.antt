@@ -1,8 +1,7 @@
 -- The kinds by their numbers, as the code tells them apart. Assumes nothing.
-use mathlib.Core.Path.{_≡_, refl, sym, ap, subst, _∙_}
+use mathlib.Core.Path.{_≡_, refl, sym, subst}
 use mathlib.Core.Logic.{_≢_}
 use mathlib.Core.Bool.{Bool, true, false, cond, _&&_, _||_}
-use mathlib.Core.Option.{Option, none, some}
 use Prim.Native.Nat.{ℕ, zero, suc, _-_, _≤_, _<_}
 use native.Mathlib.Omega.{arith}
 use native.Mathlib.Decide.{ℕ-discrete}
@@ -10,10 +9,10 @@ use lib.Dec.{eqb, leb}
 use borrow.Author.Tests.{le-leb, lt-leb}
 use Rattle.rules.specs.Codes.{stepDone, unknownKind, unknownNode}
 use Rattle.rules.specs.Range.{within}
-use Rattle.rules.specs.Rules.{Kind, classOf}
 use Rattle.rules.specs.Rules as R
-use Rattle.rules.specs.Step.{kindOf, called}
+use Rattle.rules.specs.Step.{kindOf}
 use Rattle.laws.specs.InRange.{Within}
+use Rattle.laws.specs.Kinds.{of-none, of-node, of-power}
 use Rattle.laws.specs.Tests.{is-eq, is-within, is-yes}
 use Rattle.asks.specs.declared.Ask.{Ask}
 use Rattle.asks.specs.Classes.{hasNode, rowKind, deskKind, atRow, atDesk, barrierOf}
@@ -117,61 +116,17 @@ last-wire _ handleUpdate a b c = absurd (b refl)
 last-wire _ shutdown a b c = absurd (c refl)
 last-wire _ startup a b c = refl
 
--- ---- a kind that does not exist, and one that does with the nodes that it calls for
-
-pub no-kind : (kind : ℕ) → 13 < kind → kindOf kind ≡ none
-no-kind kind h = ap kindOf (let e : kind ≡ suc (suc (suc (suc (suc (suc (suc (suc (suc (suc (suc (suc (suc (suc (kind - 14)))))))))))))) = omega arith in e)
-
--- a kind that exists, and the nodes that it calls for
-pub record Calls (node : ℕ → ℕ → Bool) (kind : ℕ) : Type 0 where
-  pub of : Kind
-  pub is : kindOf kind ≡ some of
-  pub calls : (count n : ℕ) → called (classOf of) count n ≡ node count n
-
--- one of the N for kinds 1 to 11, and 0 for 12 and 13
-abbrev pub NodeKind : ℕ → Type 0
-NodeKind kind = Calls (within 1) kind
-
-abbrev pub PowerKind : ℕ → Type 0
-PowerKind kind = Calls (λ count n. eqb n 0) kind
-
-pub node-kind : (kind : ℕ) → 1 ≤ kind → kind ≤ 11 → NodeKind kind
-node-kind kind h k = go kind h k
-  where
-    go : (kind : ℕ) → 1 ≤ kind → kind ≤ 11 → NodeKind kind
-    go zero h k = absurd (omega arith)
-    go (suc zero) h k = record { of = _; is = refl; calls = λ count n. refl }
-    go (suc (suc zero)) h k = record { of = _; is = refl; calls = λ count n. refl }
-    go (suc (suc (suc zero))) h k = record { of = _; is = refl; calls = λ count n. refl }
-    go (suc (suc (suc (suc zero)))) h k = record { of = _; is = refl; calls = λ count n. refl }
-    go (suc (suc (suc (suc (suc zero))))) h k = record { of = _; is = refl; calls = λ count n. refl }
-    go (suc (suc (suc (suc (suc (suc zero)))))) h k = record { of = _; is = refl; calls = λ count n. refl }
-    go (suc (suc (suc (suc (suc (suc (suc zero))))))) h k = record { of = _; is = refl; calls = λ count n. refl }
-    go (suc (suc (suc (suc (suc (suc (suc (suc zero)))))))) h k = record { of = _; is = refl; calls = λ count n. refl }
-    go (suc (suc (suc (suc (suc (suc (suc (suc (suc zero))))))))) h k = record { of = _; is = refl; calls = λ count n. refl }
-    go (suc (suc (suc (suc (suc (suc (suc (suc (suc (suc zero)))))))))) h k = record { of = _; is = refl; calls = λ count n. refl }
-    go (suc (suc (suc (suc (suc (suc (suc (suc (suc (suc (suc zero))))))))))) h k = record { of = _; is = refl; calls = λ count n. refl }
-    go (suc (suc (suc (suc (suc (suc (suc (suc (suc (suc (suc (suc kind)))))))))))) h k = absurd (omega arith)
-
-pub power-kind : (kind : ℕ) → 12 ≤ kind → kind ≤ 13 → PowerKind kind
-power-kind kind h k = go (ℕ-discrete kind 12)
-  where
-    go : Dec (kind ≡ 12) → PowerKind kind
-    go (yes e) = record { of = R.shutdown; is = ap kindOf e; calls = λ count n. refl }
-    go (no z) = let e : kind ≡ 13 = omega arith in record { of = R.startup; is = ap kindOf e; calls = λ count n. refl }
+-- ---- whether a kind exists, and the node is one that it calls for: one of the N for kinds 1 to 11, and 0 for 12 and 13
 
 module _ (count n : ℕ) where
-  pub no-barrier : (k : ℕ) → kindOf k ≡ none → barrierOf (kindOf k) count n ≡ unknownKind
-  no-barrier k e = ap (λ (o : Option Kind). barrierOf o count n) e
-
-  barrier-at : (node : ℕ → ℕ → Bool) (k : ℕ) → Calls node k → barrierOf (kindOf k) count n ≡ cond (node count n) stepDone unknownNode
-  barrier-at node k c = ap (λ (o : Option Kind). barrierOf o count n) (c .is) ∙ ap (λ (x : Bool). cond x stepDone unknownNode) (c .calls count n)
+  pub no-barrier : (k : ℕ) → 13 < k → barrierOf (kindOf k) count n ≡ unknownKind
+  no-barrier k h = of-none (λ o. barrierOf o count n) (cond (within 1 count n) stepDone unknownNode) (cond (eqb n 0) stepDone unknownNode) refl k h
 
   pub node-barrier : (k : ℕ) → 1 ≤ k → k ≤ 11 → barrierOf (kindOf k) count n ≡ cond (within 1 count n) stepDone unknownNode
-  node-barrier k h j = barrier-at (within 1) k (node-kind k h j)
+  node-barrier k h j = of-node (λ o. barrierOf o count n) (cond (within 1 count n) stepDone unknownNode) (cond (eqb n 0) stepDone unknownNode) refl k h (omega arith)
 
   pub power-barrier : (k : ℕ) → 12 ≤ k → k ≤ 13 → barrierOf (kindOf k) count n ≡ cond (eqb n 0) stepDone unknownNode
-  power-barrier k h j = barrier-at (λ count n. eqb n 0) k (power-kind k h j)
+  power-barrier k h j = of-power (λ o. barrierOf o count n) (cond (within 1 count n) stepDone unknownNode) (cond (eqb n 0) stepDone unknownNode) refl k h (omega arith)
 
 -- ---- neither a row's kind nor the service's
 

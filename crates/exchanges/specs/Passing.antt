@@ -7,7 +7,7 @@ use native.Mathlib.Omega.{arith}
 use native.Mathlib.Decide.{ℕ-discrete}
 use lib.Dec.{eqb, leb}
 use lib.ListN.{getD}
-use borrow.Author.Tests.{leb-true, leb-false, le-leb, lt-leb, not-false}
+use borrow.Author.Tests.{not-false}
 use Rattle.rules.specs.Range.{all}
 use Rattle.seqs.specs.Tables.{table-get}
 use Rattle.places.specs.Places.{from}

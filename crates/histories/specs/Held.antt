@@ -8,7 +8,7 @@ use Rattle.rules.specs.State.{Write}
 use Rattle.seqs.specs.Tables.{table}
 use Rattle.lists.specs.EventList.{nodeCount, recordCount, records, refusal}
 use Rattle.runner.specs.Ran.{noWrites, Ran, ran}
-use Rattle.transcript.specs.Entries.{entryAt}
+use Rattle.lists.specs.Entries.{entryAt}
 use Rattle.transcript.specs.Transcript.{runText, transcript}
 use Rattle.oldmaster.specs.KeptOut.{KeptOut}
 

@@ -13,7 +13,7 @@ use Rattle.lists.specs.EventList.{recordCount, recordAt}
 use Rattle.text.specs.Decimal.{digit, decimal}
 use Rattle.text.specs.Lines.{blank, newline, number, recordLine, writesLine, writeLine}
 use Rattle.text.specs.Digits.{Digits, end, next, only-digits, saidAfter, says-itself}
-use Rattle.transcript.specs.Entries.{noWrite}
+use Rattle.lists.specs.Entries.{noWrite}
 use Rattle.transcript.specs.Transcript.{lines, runText}
 
 -- A byte that is no digit ends a number; `so-far` is what the digits before have said.

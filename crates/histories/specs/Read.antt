@@ -16,7 +16,7 @@ use Rattle.seqs.specs.Tables.{table, table-of}
 use Rattle.lists.specs.EventList.{nodeCount, recordCount, records, refusal, need, lengthFits, trailerFits, nodesFit, sumFits, historyBytes}
 use Rattle.lists.specs.Good.{good}
 use Rattle.runner.specs.Ran.{historyRoom, noWrites, runRefusal, wholeRun, completed, ran}
-use Rattle.transcript.specs.Entries.{entryAt, noWrite, entry-read}
+use Rattle.lists.specs.Entries.{entryAt, noWrite, entry-read}
 use Rattle.transcript.specs.Transcript.{transcript}
 use Rattle.transcript.specs.Reading.{all-answered}
 use Rattle.oldmaster.specs.KeptOut.{KeptOut}

@@ -3,4 +3,5 @@ pub mod Reads
 pub mod Good
 pub mod Stores
 pub mod Written
+pub mod Entries
 pub mod Sample

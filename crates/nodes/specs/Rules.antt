@@ -1,34 +1,32 @@
 -- The rules 3 to 7 by the tests that the code makes. Assumes nothing.
 use mathlib.Core.Path.{_≡_, refl, sym, ap, _∙_}
 use mathlib.Core.Logic.{_≢_}
-use mathlib.Core.Bool.{Bool, true, false, not, cond, _&&_, and-false}
+use mathlib.Core.Bool.{Bool, true, false, not, _&&_, and-false}
 use mathlib.Core.List.{List, [], _∷_}
-use Prim.Native.Nat.{ℕ, _≤_, _<_}
+use Prim.Native.Nat.{ℕ, _≤_}
 use native.Mathlib.Omega.{arith}
 use lib.Dec.{leb, ltb, eqb}
 use lib.ListN.{getD}
-use borrow.Author.Tests.{eq-eqb, ne-eqb, lt-ltb, le-ltb, le-leb, lt-leb}
+use borrow.Author.Tests.{eq-eqb, ne-eqb, le-ltb}
 use Rattle.rules.specs.Limits.{topId}
 use Rattle.rules.specs.State as S
-use Rattle.rules.specs.Queues.{first, rest, empty, room}
+use Rattle.rules.specs.Queues.{first, empty}
 use Rattle.rules.specs.Ids.{named, termOf}
-use Rattle.rules.specs.Part.{decide}
 use Rattle.rules.specs.Rules.{learnRule, sendUpdateRule, receiveUpdateRule, sendWriteRule, isUpdate, isWrite, isOk, confirms}
 use Rattle.rules.specs.Rules as R
 use Rattle.seqs.specs.Queue.{Queue, packed, head-held, empty-held}
-use Rattle.parts.specs.Hold.{packMastership, holdMastership, noMastership, pastMastership, eventsQueue, holdEvents, packRequest, holdRequest, noRequest, requestsQueue, packResponse, holdResponse, noResponse, responsesQueue, holdResponses, holdMessage, holdStatus, packMessage, packStatus}
+use Rattle.parts.specs.Hold.{packMastership, holdMastership, noMastership, pastMastership, eventsQueue, holdEvents, packResponse, holdResponse, noResponse, responsesQueue, holdResponses, holdMessage, holdStatus}
 use Rattle.parts.specs.Ordered.{OrderedEvents, OrderedResponses, response-back}
 use Rattle.parts.specs.declared.Mastership.{Mastership}
 use Rattle.parts.specs.declared.Response.{Response}
 use Rattle.parts.specs.declared.EventQueue.{EventQueue}
-use Rattle.parts.specs.declared.RequestQueue.{RequestQueue}
 use Rattle.parts.specs.declared.ResponseQueue.{ResponseQueue}
 use Rattle.parts.specs.declared.Message.{Message}
 use Rattle.state.specs.Order.{OrderedNode, OrderedStream}
-use Rattle.state.specs.Reads.{answerOf, inboxOf, senderOf, receiverOf}
+use Rattle.state.specs.Reads.{inboxOf, senderOf, receiverOf}
 use Rattle.state.specs.declared.Node.{Node}
 use Rattle.state.specs.declared.Stream.{Stream}
-use Rattle.nodes.specs.Waiting.{sendAnswer, updateWaits, writeWaits, Waits}
+use Rattle.nodes.specs.Waiting.{updateWaits, writeWaits, Waits}
 
 -- ---- heads and fullness
 

@@ -1,6 +1,6 @@
 -- What the functions of this crate promise beyond the rules' own words.
 use mathlib.Core.Path.{_≡_}
-use mathlib.Core.Bool.{Bool, true, false, not, cond, _&&_}
+use mathlib.Core.Bool.{Bool, false, not, cond, _&&_}
 use Prim.Native.Nat.{ℕ, _≤_}
 use Rattle.rules.specs.Limits.{topId}
 use Rattle.rules.specs.Codes.{stepDone, notAllowed, queueFull}

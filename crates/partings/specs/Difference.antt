@@ -1,12 +1,12 @@
 -- The first entry in which two histories differ.
 use mathlib.Core.Bool.{Bool, true, false, cond, _&&_}
 use mathlib.Core.List.{List, [], _∷_}
-use Prim.Native.Nat.{ℕ, suc, _+_, _*_}
+use Prim.Native.Nat.{ℕ, suc, _+_}
 use lib.Dec.{eqb}
 use lib.ListN.{length, getD}
 use Rattle.rules.specs.State.{Write}
 use Rattle.seqs.specs.Tables.{table}
-use Rattle.lists.specs.EventList.{byteAt}
+use Rattle.lists.specs.Entries.{entryAt, noWrite}
 use Rattle.partings.specs.declared.Entry.{Entry}
 use Rattle.partings.specs.declared.Parting.{Parting}
 
@@ -25,10 +25,6 @@ common [] vs = 0
 common (w ∷ ws) [] = 0
 common (w ∷ ws) (v ∷ vs) = oneMore (sameWrite w v) (common ws vs)
 
--- Where there is no entry.
-abbrev pub noWrite : Write
-noWrite = record { node = 0; term = 0 }
-
 abbrev pub entryOf : Write → Entry
 entryOf w = record { node = w .node; term = w .term }
 
@@ -46,9 +42,6 @@ difference ws vs =
     (differsAt (common ws vs) ws vs)
 
 -- ---- histories as bytes
-
-abbrev pub entryAt : List ℕ → ℕ → Write
-entryAt part i = record { node = byteAt part (4 * i); term = byteAt part (4 * i + 2) + 256 * byteAt part (4 * i + 3) }
 
 -- The first n entries.
 abbrev pub entries : List ℕ → ℕ → List Write

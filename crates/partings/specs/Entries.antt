@@ -2,16 +2,16 @@
 use mathlib.Core.Path.{_≡_, refl, sym, ap, ap₂, _∙_}
 use mathlib.Core.Bool.{Bool, true, false, cond, _&&_}
 use mathlib.Core.List.{List, [], _∷_, _++_}
-use Prim.Native.Nat.{ℕ, zero, suc, _+_, _*_, _/_, _%_, _≤_, _<_}
-use native.Mathlib.Nat.{le-of-suc-le-suc}
+use Prim.Native.Nat.{ℕ, zero, suc, _+_, _≤_, _<_}
 use native.Mathlib.Omega.{arith}
 use native.Mathlib.Decide.{decLt}
 use lib.Dec.{eqb}
 use lib.ListN.{length, getD, List·getD-eq-default}
 use Rattle.rules.specs.State.{Write}
 use Rattle.seqs.specs.Tables.{table, table-get, table-of, table-length}
-use Rattle.lists.specs.EventList.{byteAt, historyBytes}
-use Rattle.partings.specs.Difference.{sameWrite, oneMore, common, noWrite, entryOf, agrees, differsAt, difference, entryAt, entries}
+use Rattle.lists.specs.EventList.{historyBytes}
+use Rattle.lists.specs.Entries.{entryAt, noWrite, entry-read}
+use Rattle.partings.specs.Difference.{sameWrite, oneMore, common, entryOf, agrees, differsAt, difference, entries}
 use Rattle.partings.specs.declared.Entry.{Entry}
 use Rattle.partings.specs.Reads.{writeOf}
 
@@ -48,24 +48,9 @@ shared-all (suc n) (suc m) (suc i) f g s d =
 
 -- ---- written entries
 
-behind : (a b c d : ℕ) (l : List ℕ) (i j : ℕ) → i ≡ 4 + j → byteAt (a ∷ b ∷ c ∷ d ∷ l) i ≡ byteAt l j
-behind a b c d l i j e = let z : i ≡ suc (suc (suc (suc j))) = omega arith in rw z
-
-entry-written : (ws : List Write) (l : List ℕ) (i : ℕ) → i < length ws → getD ws i noWrite ≡ entryAt (historyBytes ws ++ l) i
-unfolding historyBytes
-entry-written [] l i h = absurd (omega arith)
-entry-written (w ∷ ws) l zero h = ap (λ (t : ℕ). record { node = w .node; term = t }) (omega arith)
-entry-written (w ∷ ws) l (suc i) h =
-    entry-written ws l i (le-of-suc-le-suc h)
-    ∙ ap₂ (λ (a b : ℕ). record { node = a; term = b }) (next (4 * suc i) (4 * i) (omega arith))
-    (ap₂ (λ (x y : ℕ). x + 256 * y) (next (4 * suc i + 2) (4 * i + 2) (omega arith)) (next (4 * suc i + 3) (4 * i + 3) (omega arith)))
-  where
-    next : (j k : ℕ) → j ≡ 4 + k → byteAt (historyBytes ws ++ l) k ≡ byteAt (historyBytes (w ∷ ws) ++ l) j
-    next j k e = sym (behind (w .node) 0 (w .term % 256) (w .term / 256) (historyBytes ws ++ l) j k e)
-
 -- What a run has written behind its answers says its history.
 pub written : (ws : List Write) (l : List ℕ) → entries (historyBytes ws ++ l) (length ws) ≡ ws
-written ws l = sym (table-of (length ws) (entryAt (historyBytes ws ++ l)) ws noWrite refl (entry-written ws l))
+written ws l = sym (table-of (length ws) (entryAt (historyBytes ws ++ l)) ws noWrite refl (λ i h. sym (entry-read ws l i h)))
 
 -- ---- one entry, or none
 

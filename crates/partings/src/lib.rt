@@ -3,7 +3,8 @@ ghost use mathlib.Core.Path.{_≡_};
 ghost use Prim.Native.Nat.{_+_, _*_, _≤_};
 ghost use lib.ListN.{length, getD};
 ghost use Rattle.rules.specs.Limits.{historyLength};
-ghost use Rattle.partings.specs.Difference.{entryAt, sameWrite, noWrite, entries, common, difference};
+ghost use Rattle.lists.specs.Entries.{entryAt, noWrite};
+ghost use Rattle.partings.specs.Difference.{sameWrite, entries, common, difference};
 ghost use Rattle.partings.specs.Reads.{writeOf};
 
 // An entry of a history.

@@ -1,16 +1,16 @@
 -- A struct is in order if it is what it holds with blanks behind it. What was written is held and in order;
 -- fullness, appending and taking off are those of the list that a queue in order holds. Assumes nothing.
-use mathlib.Core.Path.{_≡_, refl, sym, ap, _∙_}
-use mathlib.Core.Bool.{Bool, true, false, not}
+use mathlib.Core.Path.{_≡_, refl, ap}
+use mathlib.Core.Bool.{false}
 use mathlib.Core.List.{List, [], _∷_}
 use Prim.Native.Nat.{ℕ, zero, suc, _≤_}
-use lib.Dec.{leb, eqb}
-use lib.ListN.{length, take, getD}
+use lib.Dec.{leb}
+use lib.ListN.{length, take}
 use Rattle.rules.specs.Limits.{queueLength}
-use Rattle.rules.specs.Queues.{push, first, rest, empty, room}
+use Rattle.rules.specs.Queues.{push, rest}
 use Rattle.rules.specs.State as S
 use Rattle.seqs.specs.Padded.{padded}
-use Rattle.seqs.specs.Queue.{Ordered, ordered-packed, room-held, push-held, pop-held, head-held, empty-held}
+use Rattle.seqs.specs.Queue.{Ordered, ordered-packed, push-held, pop-held}
 use Rattle.parts.specs.Hold.{holdMastership, packMastership, noMastership, asIs, holdMessage, packMessage, holdStatus, packStatus, holdRequest, packRequest, noRequest, holdResponse, packResponse, noResponse, eventsQueue, ofEvents, requestsQueue, ofRequests, responsesQueue, ofResponses, packEvents, holdEvents, packRequests, holdRequests, packResponses, holdResponses}
 use Rattle.parts.specs.Queues.{pushEvent, popEvent, pushRequest, popRequest, pushResponse, popResponse}
 use Rattle.parts.specs.declared.Mastership.{Mastership}

@@ -1,10 +1,9 @@
 // Requests, responses and their queues.
 ghost use mathlib.Core.Path.{_≡_};
-ghost use mathlib.Core.Bool.{cond, not};
+ghost use mathlib.Core.Bool.{cond};
 ghost use Rattle.rules.specs.Limits.{topId};
-ghost use Rattle.rules.specs.Range.{within, answerFits};
+ghost use Rattle.rules.specs.Range.{within};
 ghost use Rattle.rules.specs.State.{update, write};
-ghost use Rattle.parts.specs.Hold.{holdStatus};
 ghost use Rattle.state.specs.Tidy.{noMessage, noStatus, blankRequest, blankResponse};
 ghost use Rattle.queues.specs.Tests.{requestTest, requestsTest, statusTest, responseTest, responsesTest};
 use crate::masterships;

@@ -2,7 +2,6 @@
 ghost use mathlib.Core.Path.{_≡_};
 ghost use mathlib.Core.Bool.{cond, false};
 ghost use Prim.Native.Nat.{_≤_};
-ghost use lib.Dec.{ltb};
 ghost use Rattle.rules.specs.Limits.{mostNodes};
 ghost use Rattle.rules.specs.Queues.{before};
 ghost use Rattle.seqs.specs.Columns.{column};

@@ -2,7 +2,7 @@
 use mathlib.Core.Path.{_≡_, refl, sym, ap, ap₂, _∙_}
 use mathlib.Core.Bool.{Bool, true, false, cond}
 use mathlib.Core.List.{List, [], _∷_, _++_, append-nil}
-use Prim.Native.Nat.{ℕ, suc, _+_, _*_, _≤_, _<_}
+use Prim.Native.Nat.{ℕ, _+_, _*_, _≤_, _<_}
 use native.Mathlib.Omega.{arith}
 use lib.Dec.{T}
 use lib.ListN.{length, set, take, length-append}
@@ -15,6 +15,7 @@ use Rattle.rules.specs.Part.{Result}
 use Rattle.rules.specs.Step.{Event, kindOf, ofKind, step, fresh}
 use Rattle.rules.specs.Run.{run}
 use Rattle.laws.specs.RangeTest.{range-sound}
+use Rattle.laws.specs.Runs.{run-state, run-answer, run-length}
 use Rattle.laws.specs.Steps.{step-keeps, run-keeps, fresh-fits}
 use Rattle.state.specs.declared.Body.{Body}
 use Rattle.state.specs.declared.Moved.{Moved}
@@ -26,23 +27,6 @@ use Rattle.lists.specs.Written.{filled, filled-none, filled-length, filled-answ
 use Rattle.lists.specs.declared.Trailer.{Trailer}
 use Rattle.runner.specs.Ran.{historyRoom, wholeRun}
 use Rattle.runner.specs.Advances as A
-
--- ---- one event more, for any step
-
-module _ {A S E : Type 0} (f : E → S → Result A S) where
-  pub run-state : (s : S) (es : List E) (e : E) → run f s (push e es) .state ≡ f e (run f s es .state) .state
-  unfolding push
-  run-state s [] e = refl
-  run-state s (x ∷ es) e = run-state (f x s .state) es e
-
-  pub run-answer : (s : S) (es : List E) (e : E) → run f s (push e es) .answer ≡ push (f e (run f s es .state) .answer) (run f s es .answer)
-  unfolding push
-  run-answer s [] e = refl
-  run-answer s (x ∷ es) e = ap (λ (l : List A). f x s .answer ∷ l) (run-answer (f x s .state) es e)
-
-  pub run-length : (s : S) (es : List E) → length (run f s es .answer) ≡ length es
-  run-length s [] = refl
-  run-length s (x ∷ es) = ap suc (run-length (f x s .state) es)
 
 -- ---- what a run rests on
 

@@ -1,15 +1,15 @@
 -- Masterships in order, changed place by place: joined, left, handed over. Assumes nothing.
 use mathlib.Core.Path.{_≡_, refl, sym, ap, _∙_}
 use mathlib.Core.Logic.{_≢_}
-use mathlib.Core.Bool.{Bool, true, false, not, cond, _&&_, _||_}
+use mathlib.Core.Bool.{true, false, not}
 use mathlib.Core.List.{List, [], _∷_, _++_}
 use Prim.Native.Nat.{ℕ, zero, suc, _+_, _-_, _≤_, _<_}
 use native.Mathlib.Omega.{arith}
-use lib.Dec.{eqb, ltb, eqb·suc-zero}
+use lib.Dec.{ltb}
 use lib.ListN.{length, getD, set, drop, take, length-append}
 use borrow.Author.Tests.{eq-eqb, ne-eqb, lt-ltb, le-ltb}
 use Rattle.rules.specs.State as S
-use Rattle.rules.specs.Queues.{push, first, rest, empty, has, remove}
+use Rattle.rules.specs.Queues.{push, first, rest, empty, has}
 use Rattle.rules.specs.Ids.{named}
 use Rattle.rules.specs.Rules.{vacant, joined, left, handsOver}
 use Rattle.seqs.specs.Padded.{padded, padded-push, padded-pop}

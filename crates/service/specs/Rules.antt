@@ -1,16 +1,15 @@
 -- The rules 1 and 2 by the tests that the code makes. Assumes nothing.
-use mathlib.Core.Path.{_≡_, refl, sym, ap, _∙_}
+use mathlib.Core.Path.{_≡_, refl}
 use mathlib.Core.Logic.{_≢_}
-use mathlib.Core.Bool.{Bool, true, false, not, cond, _||_, _&&_}
+use mathlib.Core.Bool.{Bool, true, false, cond}
 use Prim.Native.Nat.{ℕ, _≤_, _<_}
-use lib.Dec.{eqb, ltb}
 use borrow.Author.Tests.{eq-eqb, ne-eqb, lt-ltb, le-ltb}
 use Rattle.rules.specs.Limits.{topTerm}
 use Rattle.rules.specs.Codes.{stepDone, notAllowed, termsSpent, queueFull}
-use Rattle.rules.specs.State.{Desk, Mastership}
+use Rattle.rules.specs.State.{Desk}
 use Rattle.rules.specs.Queues.{roomAll}
 use Rattle.rules.specs.Ids.{named}
-use Rattle.rules.specs.Part.{Out, done, need, decide}
+use Rattle.rules.specs.Part.{done, need, decide}
 use Rattle.rules.specs.Rules.{joinRule, leaveRule, vacant, handsOver}
 use Rattle.state.specs.Reads.{answerOf}
 

@@ -3,7 +3,6 @@ ghost use mathlib.Core.Path.{_≡_};
 ghost use mathlib.Core.Bool.{true, cond};
 ghost use mathlib.Core.List.{map};
 ghost use Prim.Native.Nat.{_+_, _≤_};
-ghost use lib.Dec.{ltb};
 ghost use Rattle.rules.specs.Codes.{stepDone, queueFull};
 ghost use Rattle.rules.specs.Limits.{mostNodes};
 ghost use Rattle.rules.specs.Queues.{push, roomAll};

@@ -10,7 +10,7 @@ use lib.Seq.{getD-set-same, getD-set-other}
 use Rattle.rules.specs.Limits.{mostNodes}
 use Rattle.rules.specs.State as S
 use Rattle.rules.specs.Parts.{Telling, Told, tellPart}
-use Rattle.seqs.specs.Columns.{column, length-column}
+use Rattle.seqs.specs.Columns.{length-column}
 use Rattle.seqs.specs.Tables.{table-get, table-set, table-length}
 use Rattle.state.specs.Hold.{holdWire, packStream, packStreams, packClaims, streamRow, idRow, termRow, openAt, sentAt, requestsAt, responsesAt, idAt, termAt}
 use Rattle.state.specs.Order.{OrderedWire, pastStream}

@@ -4,7 +4,7 @@ use Prim.Native.Nat.{ℕ}
 use lib.ListN.{drop}
 use Rattle.lists.specs.EventList.{recordCount}
 use Rattle.text.specs.Lines.{writesLine}
-use Rattle.transcript.specs.Entries.{entryAt}
+use Rattle.lists.specs.Entries.{entryAt}
 use Rattle.transcript.specs.Transcript.{lines, recordLineAt, lineOf}
 
 abbrev pub entryLineAt : List ℕ → ℕ → List ℕ

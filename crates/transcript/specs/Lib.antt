@@ -1,4 +1,3 @@
-pub mod Entries
 pub mod Transcript
 pub mod Bytes
 pub mod Lines

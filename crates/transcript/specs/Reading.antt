@@ -15,7 +15,7 @@ use Rattle.lists.specs.EventList.{nodeCount, recordCount, records, historyBytes
 use Rattle.lists.specs.Good.{Good, records-length}
 use Rattle.runner.specs.Ran.{wholeRun}
 use Rattle.text.specs.Lines.{writesLine}
-use Rattle.transcript.specs.Entries.{entry-read}
+use Rattle.lists.specs.Entries.{entry-read}
 use Rattle.transcript.specs.Transcript.{recordLineAt, lineOf, runText}
 use Rattle.transcript.specs.Bytes.{bytesText}
 use Rattle.transcript.specs.Lines.{lines-same}

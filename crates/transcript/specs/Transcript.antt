@@ -8,7 +8,7 @@ use Rattle.rules.specs.State.{Write}
 use Rattle.lists.specs.EventList.{refusal, recordCount, recordAt}
 use Rattle.runner.specs.Ran.{wholeRun}
 use Rattle.text.specs.Lines.{recordLine, writesLine, writeLine, refusedLine}
-use Rattle.transcript.specs.Entries.{noWrite}
+use Rattle.lists.specs.Entries.{noWrite}
 
 -- The first n of the lines f 0, f 1, f 2 and so on.
 unfoldable pub lines : (ℕ → List ℕ) → ℕ → List ℕ

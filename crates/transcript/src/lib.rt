@@ -7,7 +7,7 @@ ghost use Rattle.rules.specs.Limits.{historyLength};
 ghost use Rattle.runner.specs.Running.{Trails};
 ghost use Rattle.text.specs.Put.{Put};
 ghost use Rattle.transcript.specs.Transcript.{recordLineAt, transcript};
-ghost use Rattle.transcript.specs.Entries.{entryAt};
+ghost use Rattle.lists.specs.Entries.{entryAt};
 ghost use Rattle.transcript.specs.Bytes.{entryLineAt, bytesText, longestText};
 ghost use Rattle.transcript.specs.Lines.{Lined};
 use lists::Trailer;

@@ -8,7 +8,7 @@ use lib.ListN.{getD}
 use Rattle.rules.specs.Limits.{queueLength, historyLength}
 use Rattle.rules.specs.Codes.{notAllowed}
 use Rattle.rules.specs.State as S
-use Rattle.rules.specs.Queues.{push, first, rest, empty, room}
+use Rattle.rules.specs.Queues.{push, first, rest, empty}
 use Rattle.rules.specs.Part.{decide}
 use Rattle.rules.specs.Parts.{Served}
 use Rattle.rules.specs.Election.{masterOf}

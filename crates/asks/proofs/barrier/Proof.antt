@@ -4,7 +4,7 @@ use mathlib.Core.Bool.{Bool, cond}
 use native.Mathlib.Omega.{arith}
 use borrow.Author.Tests.{eq-eqb, ne-eqb}
 use Rattle.rules.specs.Codes.{stepDone, unknownNode}
-use Rattle.asks.specs.Kinds.{no-kind, no-barrier, node-barrier, power-barrier}
+use Rattle.asks.specs.Kinds.{no-barrier, node-barrier, power-barrier}
 use borrow.Author.Needs.{needs}
 use Rattle.asks.proofs.barrier.Statement.{statement}
 use Rattle.asks.proofs.barrier.Tie as tie
@@ -15,7 +15,7 @@ returns c = search needs
 returns-2 : tie.Need-returns-2
 returns-2 c =
     let a = c .before .before .args .ask in
-    sym (no-barrier (a .count) (a .number) (a .kind) (no-kind (a .kind) (c .if2 .taken)))
+    sym (no-barrier (a .count) (a .number) (a .kind) (c .if2 .taken))
 
 has-node-requires : tie.Need-has-node-requires
 has-node-requires c κs = search needs

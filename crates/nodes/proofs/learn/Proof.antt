@@ -1,10 +1,8 @@
 -- `learn` meets its contract. Assumes nothing.
-use mathlib.Core.Path.{_≡_, refl, sym, ap, _∙_}
+use mathlib.Core.Path.{_∙_}
 use Rattle.rules.specs.Rules.{learnRule}
 use Rattle.parts.specs.Ordered.{pop-events}
 use Rattle.nodes.specs.Rules.{head-event}
-use Rattle.parts.specs.declared.EventQueue.{EventQueue}
-use Rattle.parts.specs.declared.Mastership.{Mastership}
 use borrow.Author.Needs.{needs}
 use Rattle.nodes.proofs.learn.Statement.{statement}
 use Rattle.nodes.proofs.learn.Tie as tie

@@ -1,5 +1,4 @@
 -- `may_send_write` meets its contract. Assumes nothing.
-use mathlib.Core.Path.{_≡_, refl, sym, ap, _∙_}
 use borrow.Author.Tests.{lt-ltb, eq-eqb}
 use Rattle.nodes.specs.Rules.{write-other, write-untermed}
 use Rattle.rules.specs.Rules.{sendWriteRule}

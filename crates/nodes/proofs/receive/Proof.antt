@@ -1,5 +1,5 @@
 -- `receive` meets its contract. Assumes nothing.
-use mathlib.Core.Path.{_≡_, refl, sym, ap, _∙_}
+use mathlib.Core.Path.{_∙_}
 use Rattle.parts.specs.Ordered.{pop-responses}
 use borrow.Author.Needs.{needs}
 use Rattle.nodes.proofs.receive.Statement.{statement}

@@ -1,5 +1,5 @@
 -- `send_code` meets its contract. Assumes nothing.
-use mathlib.Core.Path.{_≡_, refl, sym, ap, _∙_}
+use mathlib.Core.Path.{sym, _∙_}
 use borrow.Author.Needs.{needs}
 use Rattle.nodes.proofs.send_code.Statement.{statement}
 use Rattle.nodes.proofs.send_code.Tie as tie

@@ -1,5 +1,5 @@
 -- `send_update` meets its contract. Assumes nothing.
-use mathlib.Core.Path.{_≡_, refl, sym, ap, _∙_}
+use mathlib.Core.Path.{ap, _∙_}
 use Prim.Native.Nat.{ℕ}
 use Rattle.rules.specs.State as S
 use Rattle.rules.specs.Ids.{electionId, idFor}

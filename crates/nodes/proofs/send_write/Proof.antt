@@ -1,8 +1,7 @@
 -- `send_write` meets its contract. Assumes nothing.
-use mathlib.Core.Path.{_≡_, refl, sym, ap, _∙_}
+use mathlib.Core.Path.{ap, _∙_}
 use Prim.Native.Nat.{ℕ}
 use Rattle.rules.specs.State as S
-use Rattle.rules.specs.Ids.{electionId}
 use Rattle.rules.specs.Rules.{sendWriteRule}
 use Rattle.parts.specs.Hold.{packRequest}
 use Rattle.parts.specs.Queues.{pushRequest}

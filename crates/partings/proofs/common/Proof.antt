@@ -2,7 +2,8 @@
 use mathlib.Core.Path.{_≡_, ap₂, sym, _∙_}
 use Prim.Native.Nat.{_-_}
 use borrow.Author.Tests.{not-true, not-false}
-use Rattle.partings.specs.Difference.{sameWrite, entryAt}
+use Rattle.lists.specs.Entries.{entryAt}
+use Rattle.partings.specs.Difference.{sameWrite}
 use Rattle.partings.specs.Entries.{Shared, shared-none, shared-more, shared-all}
 use borrow.Author.Needs.{needs}
 use native.Mathlib.Omega.{arith}

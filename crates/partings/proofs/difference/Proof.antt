@@ -5,7 +5,8 @@ use Prim.Native.Nat.{_≤_}
 use native.Mathlib.Omega.{arith}
 use Rattle.rules.specs.Limits.{historyLength}
 use Rattle.seqs.specs.Tables.{table-length}
-use Rattle.partings.specs.Difference.{entryAt, entries}
+use Rattle.lists.specs.Entries.{entryAt}
+use Rattle.partings.specs.Difference.{entries}
 use Rattle.partings.specs.Entries.{common-le, parted, differs-in}
 use borrow.Author.Needs.{needs}
 use Rattle.partings.proofs.difference.Statement.{statement}

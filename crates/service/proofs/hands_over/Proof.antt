@@ -1,9 +1,5 @@
 -- `hands_over` meets its contract. Assumes nothing.
-use mathlib.Core.Path.{_≡_, refl, sym, ap, _∙_}
-use mathlib.Core.Bool.{not}
-use mathlib.Core.List.{List}
-use Prim.Native.Nat.{ℕ}
-use lib.ListN.{length, length-map}
+use lib.ListN.{length-map}
 use borrow.Author.Tests.{eq-eqb, ne-eqb}
 use Rattle.rules.specs.Rules.{handsOver}
 use Rattle.service.specs.Masterships.{some-taken}

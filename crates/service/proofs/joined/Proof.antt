@@ -1,5 +1,4 @@
 -- `joined` meets its contract. Assumes nothing.
-use mathlib.Core.Path.{_≡_, refl, sym, ap, _∙_}
 use borrow.Author.Tests.{eq-eqb}
 use Rattle.rules.specs.Rules.{joined, vacant}
 use Rattle.service.specs.Masterships.{backups-count, joined-backup}

@@ -1,7 +1,6 @@
 -- `left` meets its contract. Assumes nothing.
-use mathlib.Core.Path.{_≡_, refl, sym, ap, _∙_}
-use borrow.Author.Tests.{eq-eqb, ne-eqb}
-use Rattle.rules.specs.Rules.{left, handsOver}
+use mathlib.Core.Path.{_∙_}
+use Rattle.rules.specs.Rules.{left}
 use Rattle.service.specs.Masterships.{left-vacant, left-over, left-backup, is-backup}
 use native.Mathlib.Omega.{arith}
 use Rattle.service.proofs.left.Statement.{statement}

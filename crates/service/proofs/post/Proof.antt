@@ -1,8 +1,6 @@
 -- `post` meets its contract. The loop has told the first i nodes. Assumes nothing.
-use mathlib.Core.Path.{_≡_, refl, sym, ap, _∙_}
-use mathlib.Core.List.{List}
-use Prim.Native.Nat.{ℕ, _≤_, _<_, _-_}
-use lib.ListN.{length}
+use mathlib.Core.Path.{_≡_, refl, ap, _∙_}
+use Prim.Native.Nat.{ℕ, _≤_, _-_}
 use Rattle.seqs.specs.Rows.{mapFirst, mapFirst-step}
 use Rattle.state.specs.Order.{pastNode}
 use Rattle.service.specs.Asks.{hears}

@@ -1,5 +1,5 @@
 -- `post_code` meets its contract. Assumes nothing.
-use mathlib.Core.Path.{_≡_, refl, sym, ap, _∙_}
+use mathlib.Core.Path.{sym, _∙_}
 use borrow.Author.Needs.{needs}
 use Rattle.service.proofs.post_code.Statement.{statement}
 use Rattle.service.proofs.post_code.Tie as tie

@@ -1,8 +1,8 @@
 -- `post_room` meets its contract. The loop has passed the first i nodes. Assumes nothing.
 use mathlib.Core.Path.{_≡_, refl, sym, ap, _∙_}
-use mathlib.Core.Bool.{true, false, not}
-use Prim.Native.Nat.{ℕ, _≤_, _<_, _-_}
-use lib.ListN.{length, getD}
+use mathlib.Core.Bool.{true, not}
+use Prim.Native.Nat.{ℕ, _≤_, _-_}
+use lib.ListN.{getD}
 use Rattle.rules.specs.Queues.{room, roomAll}
 use Rattle.seqs.specs.Columns.{column, column-more, column-at}
 use Rattle.parts.specs.Hold.{holdEvents}

@@ -1,8 +1,6 @@
 -- `without` meets its contract. The loop has kept the first i of those that stay. Assumes nothing.
 use mathlib.Core.Path.{_≡_, refl, sym, ap, _∙_}
-use mathlib.Core.List.{List}
-use mathlib.Core.Logic.{_≢_}
-use Prim.Native.Nat.{ℕ, suc, _+_, _-_, _≤_, _<_}
+use Prim.Native.Nat.{ℕ, suc, _+_, _-_, _≤_}
 use lib.ListN.{length, getD, take}
 use lib.Seq.{getD-take, take-all}
 use borrow.Author.Tests.{ne-eqb}

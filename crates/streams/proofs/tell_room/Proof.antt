@@ -8,7 +8,6 @@ use lib.Dec.{leb}
 use lib.ListN.{length, drop, getD}
 use borrow.Author.Needs.{needs}
 use Rattle.rules.specs.Limits.{queueLength}
-use Rattle.rules.specs.Queues.{room}
 use Rattle.rules.specs.Election.{roomOpen}
 use Rattle.seqs.specs.Columns.{column, left-more, left-none}
 use Rattle.parts.specs.Hold.{holdResponse, packResponse, noResponse, responsesQueue}

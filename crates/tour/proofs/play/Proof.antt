@@ -1,7 +1,6 @@
 -- `play` meets its contract. It is safe and ends. Assumes nothing.
 use Prim.Native.Nat.{_+_, _-_, _≤_}
 use lib.ListN.{length}
-use native.Mathlib.Omega.{arith}
 use borrow.Author.Needs.{needs}
 use Rattle.tour.proofs.play.Statement.{statement}
 use Rattle.tour.proofs.play.Tie as tie

@@ -1,6 +1,5 @@
 -- `print_writes` meets its contract. It is safe and ends. Assumes nothing.
 use Prim.Native.Nat.{_-_, _≤_}
-use native.Mathlib.Omega.{arith}
 use borrow.Author.Needs.{needs}
 use Rattle.tour.proofs.print_writes.Statement.{statement}
 use Rattle.tour.proofs.print_writes.Tie as tie

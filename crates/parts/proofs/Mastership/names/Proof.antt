@@ -1,12 +1,11 @@
 -- `Mastership::names` meets its contract: a node is named exactly if its place is not past the last backup. Assumes nothing.
 use mathlib.Core.Path.{_≡_, sym, ap, _∙_}
-use Prim.Native.Nat.{ℕ, _≤_, _<_, min}
+use Prim.Native.Nat.{ℕ, min}
 use native.Mathlib.Omega.{arith}
-use lib.Dec.{leb}
-use lib.ListN.{length, take, length-take, length-map}
+use lib.ListN.{length, length-take, length-map}
 use borrow.Author.Needs.{needs}
 use borrow.Author.Tests.{lt-leb}
-use Rattle.rules.specs.Ids.{named, placeOf}
+use Rattle.rules.specs.Ids.{placeOf}
 use Rattle.parts.specs.Hold.{holdMastership}
 use Rattle.parts.specs.Places.{named-place, same-leb}
 use Rattle.parts.proofs.Mastership.names.Statement.{statement}
