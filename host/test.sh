@@ -12,6 +12,7 @@ library=${1:-target/staticlib/libhoefspanker.a}
 programs=${PROGRAMS:-target/bin}
 passed=0
 failed=0
+begun=
 
 # test_that NAME COMMAND ..: one line, and the command's output if it fails.
 test_that() {
@@ -27,8 +28,30 @@ test_that() {
     fi
 }
 
+# begin NAME COMMAND ..: a long test that runs beside those that follow, one such at a time.
+begin() {
+    collect
+    begun=$1
+    shift
+    "$@" >"$out/begun.log" 2>&1 &
+    running=$!
+}
+
+# Waits for the test that was begun, if there is one, and counts it.
+ended() {
+    wait "$running" && return
+    cat "$out/begun.log"
+    return 1
+}
+
+collect() {
+    [ -z "$begun" ] || test_that "$begun" ended
+    begun=
+}
+
 # The counts as the last line, and the exit status.
 finish() {
+    collect
     echo "$passed passed, $failed failed"
     [ "$failed" -eq 0 ]
     exit
@@ -88,7 +111,7 @@ test_that "library: $library" build_library
 test_that "reference built" build_reference
 test_that "unit tests of the reference" "$out/reference-test"
 test_that "comparison built" build_compare
-test_that "comparison with the reference" "$out/compare"
+begin "comparison with the reference" "$out/compare"
 test_that "reading of messages built" build_reading
 test_that "unit tests of the reading" "$out/reading-test"
 test_that "comparison of messages built" build_compare_messages
@@ -98,15 +121,16 @@ test_that "protobuf's own messages" "$out/peer" "$programs/arbitration"
 test_that "judge of merges built" build_judge
 test_that "unit tests of the judge" "$out/judge-test"
 test_that "comparison of verdicts built" build_compare_verdicts
-test_that "comparison with the judge" "$out/compare-verdicts"
+begin "comparison with the judge" "$out/compare-verdicts"
 test_that "programs for merges built" build_programs
 test_that "program for two lists" "$out/programs" compare "$programs/compare" "$out/scratch"
-test_that "program for merged logs" "$out/programs" merges "$programs/merge_log" "$out/scratch"
+begin "program for merged logs" "$out/programs" merges "$programs/merge_log" "$out/scratch"
 test_that "C example built" build_example
 test_example valgrind valgrind -q --error-exitcode=9 --leak-check=full "$out/host"
 test_example sanitizers "$out/host-sanitized"
 test_that "C++ header built" build_header
 test_that "C++ header run" "$out/header"
 test_that "measurement built" build_bench
+collect
 test_that "measurement run" "$out/bench" 1
 finish

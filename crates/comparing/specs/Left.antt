@@ -11,7 +11,7 @@ use borrow.Author.Tests.{not-true, not-false}
 use Rattle.verdict.specs.Verdict.{Pulled, taken, blocked, missing, behind, met, pull}
 use Rattle.places.specs.Places.{from, found, seek}
 use Rattle.places.specs.Seek.{Sought}
-use Rattle.comparing.specs.Row.{Moved}
+use Rattle.taking.specs.Row.{Moved}
 
 pub nowhere : {B : Type 0} {x : ℕ} → none ≡ some x → B
 nowhere e = let z : _≡_ {A = ℕ} 0 1 = cc in absurd (omega arith)

@@ -1,7 +1,4 @@
 pub mod Compare
-pub mod Row
-pub mod Filling
-pub mod Taking
 pub mod Left
 pub mod Obstacles
 pub mod Walk

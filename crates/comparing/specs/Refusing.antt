@@ -8,7 +8,7 @@ use Rattle.lists.specs.EventList.{nodeCount, recordAt, refusal}
 use Rattle.lists.specs.Reads.{trailerOf}
 use Rattle.lists.specs.Good.{trailer-code}
 use Rattle.lists.specs.declared.Trailer.{Trailer}
-use Rattle.runner.specs.Running.{Trails}
+use Rattle.lists.specs.Trails.{Trails}
 use Rattle.comparing.specs.Compared.{ofSecond, nodesDiffer, refused, comparison, compared}
 use Rattle.comparing.specs.Walk.{whole}
 

@@ -15,9 +15,10 @@ use Rattle.places.specs.Places.{from}
 use Rattle.places.specs.Seek.{Sought, seek-as}
 use Rattle.comparing.specs.Compare.{same, onlyFirst, onlySecond, free, equal, looked, compare}
 use Rattle.comparing.specs.declared.Finding.{Finding}
-use Rattle.comparing.specs.Row.{Placed, Moved, isStop}
-use Rattle.comparing.specs.Filling.{Put, length-from, getD-from}
-use Rattle.comparing.specs.Taking.{moved-placed}
+use Rattle.taking.specs.Row.{Placed, Moved, isStop}
+use Rattle.places.specs.Holds.{Holds}
+use Rattle.taking.specs.Filling.{length-from, getD-from}
+use Rattle.taking.specs.Taking.{moved-placed}
 use Rattle.comparing.specs.Left.{pull-missing, pull-blocked, pull-taken}
 use Rattle.comparing.specs.Obstacles.{hindrance}
 
@@ -68,7 +69,7 @@ module _ (count : ℕ) (here there : ℕ → Event) (n m : ℕ) where
       walk-left h = ap₂ compares (sym none-behind) (sym (drop-cons places j 0 (let z = long in omega arith))) ∙ w .going
 
     -- The next record of the first list.
-    module _ (few : count ≤ 8) {table : List ℕ} (for : TableFor count table) (letters : List ℕ) (are : Put (λ q. letterOf (there q)) letters m) (more : j < n) {a at : ℕ} (is : a ≡ letterOf (here j))
+    module _ (few : count ≤ 8) {table : List ℕ} (for : TableFor count table) (letters : List ℕ) (are : Holds (λ q. letterOf (there q)) letters m) (more : j < n) {a at : ℕ} (is : a ≡ letterOf (here j))
         (s : Sought (isStop letters table a places) j (length places) at) where
       stop : Sought (λ q. not (may j (getD places q 0))) j (length places) at
       stop = seek-as as-stops (subst (λ (x : ℕ). Sought (isStop letters table x places) j (length places) at) is s)

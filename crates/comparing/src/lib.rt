@@ -4,16 +4,13 @@ ghost use mathlib.Core.Path.{_≡_};
 ghost use Prim.Native.Nat.{_+_, _≤_, _<_};
 ghost use lib.ListN.{length, getD};
 ghost use Rattle.lists.specs.EventList.{recordAt, recordCount};
-ghost use Rattle.lists.specs.Reads.{eventOf};
-ghost use Rattle.runner.specs.Running.{Trails};
-ghost use Rattle.verdict.specs.Verdict.{sameEvent};
-ghost use Rattle.letters.specs.Letters.{tableSize, TableFor};
+ghost use Rattle.lists.specs.Trails.{Trails};
+ghost use Rattle.letters.specs.Letters.{TableFor};
 ghost use Rattle.places.specs.Places.{from};
-ghost use Rattle.places.specs.Seek.{Sought};
-ghost use Rattle.comparing.specs.Row.{Placed, Moved, isStop, isThere};
+ghost use Rattle.taking.specs.Row.{Placed};
 ghost use Rattle.comparing.specs.Compare.{onlyFirst, onlySecond};
 ghost use Rattle.comparing.specs.Compared.{refused, comparison, compared};
-ghost use Rattle.comparing.specs.Filling.{Lettered};
+ghost use Rattle.taking.specs.Filling.{Lettered};
 ghost use Rattle.comparing.specs.Obstacles.{hindrance};
 ghost use Rattle.comparing.specs.Walk.{whole};
 use lists::Record;
@@ -44,103 +41,6 @@ pub struct Finding {
     pub r: u32,
     pub s: u32,
 }
-
-// ---- searches, each for the first from a start on; the end where there is none
-
-// A record that a step with this letter may not pass.
-fn next_stop(letters: &[u8], places: &[u16], table: &[u8], letter: u8, start: usize) -> usize
-    requires { ⌜ (length (now table) ≡ tableSize) × (letter < 126) × Placed (now places) (length (now letters)) × (start ≤ length (now places)) ⌝ }
-    ensures { λ r. ⌜ Sought (isStop (now (letters .entry)) (now (table .entry)) letter (now (places .entry))) start (length (now (places .entry))) r ⌝ }
-{
-    let row = 256 * (letter as usize);
-    let mut i = start;
-    while i < places.len() {
-        let place = places[i] as usize;
-        if table[row + letters[place] as usize] != 1 {
-            return i;
-        }
-        i += 1;
-    }
-    i
-}
-
-fn alike(a: Record, b: Record) -> bool
-    ensures { λ r. ⌜ r ≡ sameEvent (eventOf a) (eventOf b) ⌝ }
-{
-    (a.kind == b.kind) & (a.node == b.node)
-}
-
-// This record, in the row of the second list's places.
-fn find_left(places: &[u16], second: &[u8], trailer: Trailer, start: usize, event: Record) -> usize
-    requires { ⌜ Trails (now second) trailer × Placed (now places) (trailer .count) × (start ≤ trailer .count) ⌝ }
-    ensures { λ r. ⌜ Sought (isThere (now (second .entry)) (eventOf event) (now (places .entry))) start (length (now (places .entry))) r ⌝ }
-{
-    let mut i = start;
-    while i < places.len() {
-        let place = places[i] as usize;
-        if alike(event, lists::read_record(second, trailer.first, place)) {
-            return i;
-        }
-        i += 1;
-    }
-    i
-}
-
-// This record, in the first list.
-fn find_record(first: &[u8], trailer: Trailer, start: usize, event: Record) -> usize
-    requires { ⌜ Trails (now first) trailer × (start ≤ trailer .count) ⌝ }
-    ensures { λ r. ⌜ Sought (λ a. sameEvent (recordAt (now (first .entry)) a) (eventOf event)) start (trailer .count) r ⌝ }
-{
-    let mut i = start;
-    while i < trailer.count {
-        if alike(lists::read_record(first, trailer.first, i), event) {
-            return i;
-        }
-        i += 1;
-    }
-    i
-}
-
-// The letters of the second list.
-fn fill_letters(second: &[u8], trailer: Trailer, letters: &mut [u8])
-    requires { ⌜ Trails (now second) trailer × (length (now letters) ≡ trailer .count) ⌝ }
-    ensures { λ _. ⌜ Lettered (now (second .entry)) (now (letters .exit)) (recordCount (now (second .entry))) ⌝ }
-{
-    let mut i: usize = 0;
-    while i < letters.len() {
-        let record = lists::read_record(second, trailer.first, i);
-        letters[i] = letters::letter(record.kind, record.node);
-        i += 1;
-    }
-}
-
-// ---- the row of places
-
-// All places, in turn.
-fn fill_places(places: &mut [u16])
-    requires { ⌜ length (now places) < 65536 ⌝ }
-    ensures { λ _. ⌜ now (places .exit) ≡ from 0 (length (now (places .entry))) ⌝ }
-{
-    let mut i: usize = 0;
-    while i < places.len() {
-        places[i] = i as u16;
-        i += 1;
-    }
-}
-
-// Takes out what stands at `at`: what stands before it, from `start` on, moves up.
-fn take(places: &mut [u16], start: usize, at: usize)
-    requires { ⌜ (start ≤ at) × (at < length (now places)) ⌝ }
-    ensures { λ _. ⌜ Moved start at (now (places .entry)) (now (places .exit)) ⌝ }
-{
-    let mut i = at;
-    while start < i {
-        places[i] = places[i - 1];
-        i -= 1;
-    }
-}
-
-// ---- the comparison
 
 fn only_first(a: usize) -> Finding
     requires { ⌜ a < 32768 ⌝ }
@@ -181,7 +81,7 @@ fn hindrance(
     requires { ⌜ Trails (now first) one × Trails (now second) other × Placed (now places) (other .count) × (a < one .count) × (a ≤ b) × (b < other .count) ⌝ }
     ensures { λ r. ⌜ r ≡ hindrance (one .nodes) (recordAt (now (first .entry))) (recordAt (now (second .entry))) (one .count) (now (places .entry)) a (getD (now (places .entry)) b 0) ⌝ }
 {
-    let found = find_left(
+    let found = taking::find_left(
         places,
         second,
         other,
@@ -193,7 +93,7 @@ fn hindrance(
     }
     let place = places[b] as usize;
     let blocking = lists::read_record(second, other.first, place);
-    let behind = find_record(first, one, a + 1, blocking);
+    let behind = taking::find_record(first, one, a + 1, blocking);
     if behind == one.count {
         return only_second(place);
     }
@@ -223,16 +123,16 @@ fn walk(
     while j < one.count {
         let event = lists::read_record(first, one.first, j);
         let letter = letters::letter(event.kind, event.node);
-        let at = next_stop(letters, places, table, letter, j);
+        let at = taking::next_stop(letters, places, table, letter, j);
         if at == other.count {
             return only_first(j);
         }
         let place = places[at] as usize;
         let met = lists::read_record(second, other.first, place);
-        if !alike(event, met) {
+        if !taking::alike(event, met) {
             return hindrance(first, one, second, other, places, j, at);
         }
-        take(places, j, at);
+        taking::take(places, j, at);
         j += 1;
     }
     if j < other.count {
@@ -260,8 +160,8 @@ fn walk_letters(
     requires { ⌜ Trails (now first) one × Trails (now second) other × (length (now letters) ≡ other .count) × (length (now places) ≡ other .count) × TableFor (one .nodes) (now table) ⌝ }
     ensures { λ r. ⌜ r ≡ whole (one .nodes) (recordAt (now (first .entry))) (recordAt (now (second .entry))) (one .count) (other .count) ⌝ }
 {
-    fill_letters(second, other, letters);
-    fill_places(places);
+    taking::fill_letters(second, other, letters);
+    taking::fill_places(places);
     walk(first, one, second, other, letters, places, table)
 }
 

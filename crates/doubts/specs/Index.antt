@@ -5,13 +5,14 @@ use mathlib.Core.Bool.{Bool, true, false, not, _||_}
 use mathlib.Core.List.{List}
 use Prim.Native.Nat.{ℕ, _+_, _*_, _≤_, _<_}
 use native.Mathlib.Omega.{arith}
-use native.Mathlib.Decide.{decLt, ℕ-discrete}
+use native.Mathlib.Decide.{ℕ-discrete}
 use lib.Dec.{eqb, leb}
 use lib.ListN.{length, getD, set, length-set}
 use lib.Seq.{getD-set-same, getD-set-other}
 use borrow.Author.Tests.{leb-false, lt-leb, eq-eqb, ne-eqb}
 use Rattle.merges.specs.Independent.{independent}
 use Rattle.verdict.specs.Clocks.{fixed}
+use Rattle.places.specs.Holds.{Holds, holds-more}
 use Rattle.letters.specs.Letters.{letterOf, TableFor, passes}
 use Rattle.letters.specs.Table.{passes-free}
 use Rattle.letters.specs.Known.{letter-small}
@@ -25,7 +26,7 @@ timeAt l i = rowIn l i .logged .time
 -- The places up to i hold the letters of their records.
 pub record Lettered (l letters : List ℕ) (n i : ℕ) : Type 0 where
   pub size : length letters ≡ n
-  pub are : (q : ℕ) → q < i → getD letters q 0 ≡ letterOf (rowIn l q .logged .event)
+  pub are : Holds (λ q. letterOf (rowIn l q .logged .event)) letters i
 
 -- The places from i on hold times that no record from there on is before.
 pub record Least (l least : List ℕ) (n i : ℕ) : Type 0 where
@@ -43,13 +44,10 @@ pub record Index (count : ℕ) (l : List ℕ) (n : ℕ) (table letters least : L
 -- ---- filling
 
 pub lettered-more : {l letters : List ℕ} {n i a : ℕ} → i < n → a ≡ letterOf (rowIn l i .logged .event) → Lettered l letters n i → Lettered l (set letters i a) n (i + 1)
-lettered-more {l} {letters} {n} {i} {a} h e x = record { size = length-set letters i a ∙ x .size; are = λ q k. go q k (decLt q i) }
-  where
-    go : (q : ℕ) → q < i + 1 → Dec (q < i) → getD (set letters i a) q 0 ≡ letterOf (rowIn l q .logged .event)
-    go q k (yes b) = getD-set-other letters i q a 0 (λ s. omega arith) ∙ x .are q b
-    go q k (no b) =
-        let same : q ≡ i = omega arith in
-        ap (λ (j : ℕ). getD (set letters i a) j 0) same ∙ getD-set-same letters i a 0 (let s = x .size in omega arith) ∙ e ∙ ap (λ (j : ℕ). letterOf (rowIn l j .logged .event)) (sym same)
+lettered-more {l} {letters} {n} {i} {a} h e x = record {
+  size = length-set letters i a ∙ x .size;
+  are = holds-more (λ q. letterOf (rowIn l q .logged .event)) letters i a (let s = x .size in omega arith) e (x .are);
+}
 
 -- The least times while they are put down from the end: t is one for place i.
 pub record Timing (l least : List ℕ) (n i t : ℕ) : Type 0 where

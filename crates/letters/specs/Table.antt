@@ -1,15 +1,14 @@
 -- What the table says of the letters of two steps is whether they are independent. Assumes nothing.
-use mathlib.Core.Path.{_≡_, refl, sym, ap, ap₂, _∙_}
+use mathlib.Core.Path.{_≡_, refl, ap, ap₂, _∙_}
 use mathlib.Core.Bool.{Bool, true, false}
 use mathlib.Core.List.{List}
 use Prim.Native.Nat.{ℕ, _+_, _*_, _/_, _%_, _≤_, _<_}
 use native.Mathlib.Omega.{arith}
-use native.Mathlib.Decide.{decLt}
 use lib.Dec.{eqb}
-use lib.ListN.{length, set, getD, length-set}
-use lib.Seq.{getD-set-same, getD-set-other}
+use lib.ListN.{length, set, length-set}
 use Rattle.rules.specs.Step.{Event}
 use Rattle.merges.specs.Independent.{independent}
+use Rattle.places.specs.Holds.{Holds, holds-more}
 use Rattle.letters.specs.Letters.{letterOf, mayPass, tableSize, bit, TableFor, passes}
 use Rattle.letters.specs.Known.{letter-small, by-letters}
 
@@ -35,19 +34,13 @@ module _ {count : ℕ} {t : List ℕ} (for : TableFor count t) where
 
 pub record Filled (count : ℕ) (t : List ℕ) (n : ℕ) : Type 0 where
   pub size : length t ≡ tableSize
-  pub entries : (i : ℕ) → i < n → getD t i 0 ≡ bit (mayPass count (i / 256) (i % 256))
+  pub entries : Holds (λ i. bit (mayPass count (i / 256) (i % 256))) t n
 
 pub filled-more : (count : ℕ) (t : List ℕ) (n v : ℕ) → n < tableSize → v ≡ bit (mayPass count (n / 256) (n % 256)) → Filled count t n → Filled count (set t n v) (n + 1)
 filled-more count t n v h e f = record {
   size = length-set t n v ∙ f .size;
-  entries = λ i k. go i k (decLt i n);
+  entries = holds-more (λ i. bit (mayPass count (i / 256) (i % 256))) t n v (let z = f .size in omega arith) e (f .entries);
 }
-  where
-    go : (i : ℕ) → i < n + 1 → Dec (i < n) → getD (set t n v) i 0 ≡ bit (mayPass count (i / 256) (i % 256))
-    go i k (yes l) = getD-set-other t n i v 0 (λ q. omega arith) ∙ f .entries i l
-    go i k (no l) =
-        let q : i ≡ n = omega arith in
-        ap (λ (j : ℕ). getD (set t n v) j 0) q ∙ getD-set-same t n v 0 (let z = f .size in omega arith) ∙ e ∙ ap (λ (j : ℕ). bit (mayPass count (j / 256) (j % 256))) (sym q)
 
 pub filled-all : (count : ℕ) (t : List ℕ) (n : ℕ) → tableSize ≤ n → Filled count t n → TableFor count t
 filled-all count t n h f = record { size = f .size; entries = λ i k. f .entries i (omega arith) }

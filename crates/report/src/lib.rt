@@ -5,7 +5,7 @@ ghost use Prim.Native.Nat.{_+_, _≤_};
 ghost use lib.ListN.{length};
 ghost use Rattle.lists.specs.EventList.{nodeCount};
 ghost use Rattle.runner.specs.Ran.{historyRoom};
-ghost use Rattle.runner.specs.Running.{Trails};
+ghost use Rattle.lists.specs.Trails.{Trails};
 ghost use Rattle.comparing.specs.Compared.{comparison};
 ghost use Rattle.text.specs.Put.{Put};
 ghost use Rattle.report.specs.Report.{longest, verdictLine, partingLine, runsText, report};

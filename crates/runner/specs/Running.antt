@@ -20,10 +20,10 @@ use Rattle.laws.specs.Steps.{step-keeps, run-keeps, fresh-fits}
 use Rattle.state.specs.declared.Body.{Body}
 use Rattle.state.specs.declared.Moved.{Moved}
 use Rattle.moves.specs.Bodies.{stateOf, bodyOf, Ready, acceptedIn, Leaves}
-use Rattle.lists.specs.EventList.{nodeCount, firstRecord, recordCount, refusal, recordAt, records, historyBytes, over}
-use Rattle.lists.specs.Reads.{trailerOf}
-use Rattle.lists.specs.Good.{Good, good, trailer-code, trailer-good, records-length, records-more, records-all}
+use Rattle.lists.specs.EventList.{nodeCount, recordCount, recordAt, records, historyBytes, over}
+use Rattle.lists.specs.Good.{good, records-length, records-more, records-all}
 use Rattle.lists.specs.Written.{filled, filled-none, filled-length, filled-answer, filled-entry, filled-all}
+use Rattle.lists.specs.Trails.{Trails}
 use Rattle.lists.specs.declared.Trailer.{Trailer}
 use Rattle.runner.specs.Ran.{historyRoom, wholeRun}
 use Rattle.runner.specs.Advances as A
@@ -42,27 +42,7 @@ unfolding historyBytes push
 filled-accepted count out h answers ws true w k room = filled-entry count out h answers ws w k (room refl)
 filled-accepted count out h answers ws false w k room = ap (λ (l : List Write). filled count answers l out) (sym (append-nil ws))
 
--- The list is not refused, and the trailer is the list's.
-pub record Trails (list : List ℕ) (t : Trailer) : Type 0 where
-  pub none : refusal list ≡ 0
-  pub good : Good list
-  pub first : t .first ≡ firstRecord list
-  pub count : t .count ≡ recordCount list
-  pub nodes : t .nodes ≡ nodeCount list
-
-pub trails : (list : List ℕ) (t : Trailer) → t ≡ trailerOf list → t .code ≡ 0 → Trails list t
-trails list t e z =
-    let none : refusal list ≡ 0 = sym (trailer-code list) ∙ ap (λ (x : Trailer). x .code) (sym e) ∙ z in
-    let is = e ∙ trailer-good list none in
-    record {
-      none = none;
-      good = good list none;
-      first = ap (λ (x : Trailer). x .first) is;
-      count = ap (λ (x : Trailer). x .count) is;
-      nodes = ap (λ (x : Trailer). x .nodes) is;
-    }
-
--- And the buffer of `size` bytes is long enough.
+-- The list is not refused, the trailer is its own, and the buffer of `size` bytes is long enough.
 pub record Runs (list : List ℕ) (t : Trailer) (size : ℕ) : Type 0 where
   pub trailer : Trails list t
   pub room : t .count + historyRoom ≤ size

@@ -4,7 +4,7 @@ ghost use mathlib.Core.Path.{_≡_};
 ghost use Prim.Native.Nat.{_+_, _*_, _≤_};
 ghost use lib.ListN.{length};
 ghost use Rattle.rules.specs.Limits.{historyLength};
-ghost use Rattle.runner.specs.Running.{Trails};
+ghost use Rattle.lists.specs.Trails.{Trails};
 ghost use Rattle.text.specs.Put.{Put};
 ghost use Rattle.transcript.specs.Transcript.{recordLineAt, transcript};
 ghost use Rattle.lists.specs.Entries.{entryAt};

@@ -1,7 +1,7 @@
 -- `compare` meets its contract. Assumes nothing.
 use mathlib.Core.Path.{ap, sym, _∙_}
 use Prim.Native.Nat.{ℕ, _+_}
-use Rattle.runner.specs.Running.{trails}
+use Rattle.lists.specs.Trails.{trails}
 use Rattle.comparing.specs.Compared.{ofSecond, refused}
 use Rattle.comparing.specs.Refusing.{code-is, code-bad, code-good, first-refused, second-refused, nodes-differ, both-good}
 use borrow.Author.Needs.{needs}

@@ -10,8 +10,9 @@ use Rattle.independence.specs.Asks.{event}
 use Rattle.verdict.specs.Verdict.{sameEvent}
 use Rattle.letters.specs.Letters.{letterOf}
 use Rattle.letters.specs.Known.{letter-small}
-use Rattle.comparing.specs.Row.{Placed}
-use Rattle.comparing.specs.Filling.{Put, length-from}
+use Rattle.taking.specs.Row.{Placed}
+use Rattle.places.specs.Holds.{Holds}
+use Rattle.taking.specs.Filling.{length-from}
 use Rattle.comparing.specs.Walk.{Walking, walk-starts, walk-missing, walk-blocked, walk-takes, walk-left, walk-same}
 use borrow.Author.Needs.{needs}
 use native.Mathlib.Omega.{arith}
@@ -35,7 +36,7 @@ place-small c q h = let k = c .loop .inv .placed .inside q h in let t = c .befor
 few : (c : tie.At-loop Inv-loop μ-loop) → c .before .before .before .before .before .before .args .one .nodes ≤ 8
 few c = let t = c .before .before .before .before .before .before .pre .0 in let u = t .good .nodes .upper in omega arith
 
-are : (c : tie.At-loop Inv-loop μ-loop) → let x = c .before .before .before .before .before .before .args in Put (λ q. letterOf (recordAt (x .second .now) q)) (x .letters .now) (x .other .count)
+are : (c : tie.At-loop Inv-loop μ-loop) → let x = c .before .before .before .before .before .before .args in Holds (λ q. letterOf (recordAt (x .second .now) q)) (x .letters .now) (x .other .count)
 are c q h = c .before .before .before .before .before .before .pre .2 .are q (let t = c .before .before .before .before .before .before .pre .1 .count in omega arith)
 
 -- ---- once it has found where the next record stops

@@ -3,7 +3,7 @@ use mathlib.Core.Path.{ap, ap₂, sym, _∙_}
 use mathlib.Core.List.{[], _∷_}
 use Prim.Native.Nat.{ℕ}
 use native.Mathlib.Omega.{arith}
-use Rattle.runner.specs.Running.{trails}
+use Rattle.lists.specs.Trails.{trails}
 use Rattle.text.specs.Puts.{put-length}
 use Rattle.comparing.specs.Refusing.{code-is, code-bad, code-good}
 use Rattle.text.specs.Line as L

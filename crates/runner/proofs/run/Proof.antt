@@ -6,7 +6,7 @@ use Rattle.lists.specs.Good.{trailer-code}
 use Rattle.lists.specs.declared.Trailer.{Trailer}
 use Rattle.runner.specs.Ran.{Ran, noWrites}
 use Rattle.runner.specs.Refusing.{ran-refused, ran-short, ran-all}
-use Rattle.runner.specs.Running.{Trails, trails}
+use Rattle.lists.specs.Trails.{Trails, trails}
 use borrow.Author.Needs.{needs}
 use Rattle.runner.proofs.run.Statement.{statement}
 use Rattle.runner.proofs.run.Tie as tie

@@ -7,7 +7,7 @@ use lib.ListN.{length, length-replicate}
 use Rattle.lists.specs.EventList.{refusal}
 use Rattle.lists.specs.Good.{trailer-code}
 use Rattle.lists.specs.declared.Trailer.{Trailer}
-use Rattle.runner.specs.Running.{Trails, trails}
+use Rattle.lists.specs.Trails.{Trails, trails}
 use Rattle.text.specs.Lines.{refusedLine}
 use Rattle.text.specs.Puts.{put-length}
 use Rattle.text.specs.Widths.{refused-line-width}

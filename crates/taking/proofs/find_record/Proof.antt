@@ -8,8 +8,8 @@ use Rattle.verdict.specs.Verdict.{sameEvent}
 use Rattle.places.specs.Seek.{Seeking, seek-starts, seek-more, seek-hits, seek-ends}
 use borrow.Author.Needs.{needs}
 use native.Mathlib.Omega.{arith}
-use Rattle.comparing.proofs.find_record.Statement.{statement}
-use Rattle.comparing.proofs.find_record.Tie as tie
+use Rattle.taking.proofs.find_record.Statement.{statement}
+use Rattle.taking.proofs.find_record.Tie as tie
 
 abbrev Inv-loop : tie.InvT-loop
 Inv-loop first trailer start event i₀ i = Seeking (λ a. sameEvent (recordAt first a) (eventOf event)) start (trailer .count) i

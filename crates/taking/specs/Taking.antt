@@ -6,7 +6,7 @@ use native.Mathlib.Omega.{arith}
 use native.Mathlib.Decide.{decLt}
 use lib.ListN.{length, getD, set, length-set}
 use lib.Seq.{getD-set-same, getD-set-other}
-use Rattle.comparing.specs.Row.{Placed, Moved}
+use Rattle.taking.specs.Row.{Placed, Moved}
 
 pub moved-none : (at : ℕ) (l : List ℕ) → Moved at at l l
 moved-none at l = record { size = refl; low = λ q h. refl; up = λ q h k. absurd (omega arith); high = λ q h. refl }

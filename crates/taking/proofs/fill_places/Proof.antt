@@ -2,14 +2,15 @@
 use mathlib.Core.Path.{_≡_, refl}
 use Prim.Native.Nat.{_-_, _≤_}
 use lib.ListN.{length}
-use Rattle.comparing.specs.Filling.{Put, put-more, put-all}
+use Rattle.places.specs.Holds.{Holds, holds-more}
+use Rattle.taking.specs.Filling.{holds-all}
 use borrow.Author.Needs.{needs}
 use native.Mathlib.Omega.{arith}
-use Rattle.comparing.proofs.fill_places.Statement.{statement}
-use Rattle.comparing.proofs.fill_places.Tie as tie
+use Rattle.taking.proofs.fill_places.Statement.{statement}
+use Rattle.taking.proofs.fill_places.Tie as tie
 
 abbrev Inv-loop : tie.InvT-loop
-Inv-loop places₀ i₀ places i = (length places ≡ length places₀) × (i ≤ length places₀) × Put (λ q. q) places i
+Inv-loop places₀ i₀ places i = (length places ≡ length places₀) × (i ≤ length places₀) × Holds (λ q. q) places i
 
 abbrev μ-loop : tie.MeasureT-loop
 μ-loop places₀ i₀ places i = length places₀ - i
@@ -33,13 +34,13 @@ loop-less : tie.Need-loop-less Inv-loop μ-loop
 loop-less c = search needs
 
 loop-again : tie.Need-loop-again Inv-loop μ-loop
-loop-again c = let l = c .before .loop .inv in (search needs, omega arith, put-more (λ q. q) (c .before .loop .places) (c .before .loop .i) (c .before .loop .i) (omega arith) refl (l .2))
+loop-again c = let l = c .before .loop .inv in (search needs, omega arith, holds-more (λ q. q) (c .before .loop .places) (c .before .loop .i) (c .before .loop .i) (omega arith) refl (l .2))
 
 same-length : tie.Need-same-length Inv-loop μ-loop
 same-length c = search needs
 
 returns : tie.Need-returns Inv-loop μ-loop
-returns c = let l = c .before .loop .inv in put-all (c .before .loop .places) _ (l .0) (λ q h. l .2 q (omega arith))
+returns c = let l = c .before .loop .inv in holds-all (c .before .loop .places) _ (l .0) (λ q h. l .2 q (omega arith))
 
 pub fill-places-spec : {M : Type 1} → statement M
 fill-places-spec =

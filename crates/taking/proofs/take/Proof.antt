@@ -1,12 +1,12 @@
 -- `take` meets its contract. Assumes nothing.
 use mathlib.Core.Path.{_≡_, subst}
 use Prim.Native.Nat.{ℕ, _≤_}
-use Rattle.comparing.specs.Row.{Moved}
-use Rattle.comparing.specs.Taking.{moved-none, moved-more}
+use Rattle.taking.specs.Row.{Moved}
+use Rattle.taking.specs.Taking.{moved-none, moved-more}
 use borrow.Author.Needs.{needs}
 use native.Mathlib.Omega.{arith}
-use Rattle.comparing.proofs.take.Statement.{statement}
-use Rattle.comparing.proofs.take.Tie as tie
+use Rattle.taking.proofs.take.Statement.{statement}
+use Rattle.taking.proofs.take.Tie as tie
 
 abbrev Inv-loop : tie.InvT-loop
 Inv-loop places₀ start at i₀ places i = (start ≤ i) × (i ≤ at) × Moved i at places₀ places

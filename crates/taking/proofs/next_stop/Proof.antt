@@ -4,12 +4,12 @@ use mathlib.Core.Bool.{not}
 use Prim.Native.Nat.{_-_, _<_}
 use lib.ListN.{length, getD}
 use borrow.Author.Tests.{eq-eqb, ne-eqb}
-use Rattle.comparing.specs.Row.{isStop}
+use Rattle.taking.specs.Row.{isStop}
 use Rattle.places.specs.Seek.{Seeking, seek-starts, seek-more, seek-hits, seek-ends}
 use borrow.Author.Needs.{needs}
 use native.Mathlib.Omega.{arith}
-use Rattle.comparing.proofs.next_stop.Statement.{statement}
-use Rattle.comparing.proofs.next_stop.Tie as tie
+use Rattle.taking.proofs.next_stop.Statement.{statement}
+use Rattle.taking.proofs.next_stop.Tie as tie
 
 abbrev Inv-loop : tie.InvT-loop
 Inv-loop letters places table letter start row i₀ i = Seeking (isStop letters table letter places) start (length places) i

@@ -4,12 +4,12 @@ use Prim.Native.Nat.{_-_}
 use lib.ListN.{length}
 use Rattle.lists.specs.Reads.{eventOf}
 use Rattle.verdict.specs.Verdict.{sameEvent}
-use Rattle.comparing.specs.Row.{isThere}
+use Rattle.taking.specs.Row.{isThere}
 use Rattle.places.specs.Seek.{Seeking, seek-starts, seek-more, seek-hits, seek-ends}
 use borrow.Author.Needs.{needs}
 use native.Mathlib.Omega.{arith}
-use Rattle.comparing.proofs.find_left.Statement.{statement}
-use Rattle.comparing.proofs.find_left.Tie as tie
+use Rattle.taking.proofs.find_left.Statement.{statement}
+use Rattle.taking.proofs.find_left.Tie as tie
 
 abbrev Inv-loop : tie.InvT-loop
 Inv-loop places second trailer start event i₀ i = Seeking (isThere second (eventOf event) places) start (length places) i

@@ -3,11 +3,11 @@ use mathlib.Core.Path.{ap, _∙_}
 use Prim.Native.Nat.{_-_}
 use Rattle.lists.specs.EventList.{recordCount}
 use Rattle.letters.specs.Letters.{letterOf}
-use Rattle.comparing.specs.Filling.{Lettered, lettered-more}
+use Rattle.taking.specs.Filling.{Lettered, lettered-more}
 use borrow.Author.Needs.{needs}
 use native.Mathlib.Omega.{arith}
-use Rattle.comparing.proofs.fill_letters.Statement.{statement}
-use Rattle.comparing.proofs.fill_letters.Tie as tie
+use Rattle.taking.proofs.fill_letters.Statement.{statement}
+use Rattle.taking.proofs.fill_letters.Tie as tie
 
 abbrev Inv-loop : tie.InvT-loop
 Inv-loop second trailer letters₀ i₀ letters i = Lettered second letters i
