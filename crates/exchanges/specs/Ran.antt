@@ -12,8 +12,7 @@ use Rattle.seqs.specs.Tables.{table, table-get, table-length}
 use Rattle.runner.specs.Ran.{noWrites, historyRoom, ran}
 use Rattle.partings.specs.declared.Parting.{Parting}
 use Rattle.partings.specs.Difference.{difference, entries}
-use Rattle.report.specs.Report.{history}
-use Rattle.report.specs.Runs.{Written, written-run}
+use Rattle.partings.specs.Runs.{history, Written, written-run}
 use Rattle.logtext.specs.Log.{Row}
 use Rattle.records.specs.Rows.{noRow, rowIn, rowsIn, stepsOf}
 use Rattle.exchanges.specs.Exchange.{moved, exchanged, historyOf, partingOf}

@@ -9,7 +9,7 @@ ghost use Rattle.seqs.specs.Tables.{table};
 ghost use Rattle.text.specs.Put.{Put};
 ghost use Rattle.laws.specs.InRange.{All};
 ghost use Rattle.runner.specs.Ran.{historyRoom};
-ghost use Rattle.report.specs.Runs.{Written};
+ghost use Rattle.partings.specs.Runs.{Written};
 ghost use Rattle.records.specs.Rows.{noRow, rowIn, rowsIn, stepsOf};
 ghost use Rattle.exchanges.specs.Exchange.{moved, mayPass, allowed, partingOf};
 ghost use Rattle.exchanges.specs.Bytes.{flat, listOf, Small};

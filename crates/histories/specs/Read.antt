@@ -18,7 +18,7 @@ use Rattle.lists.specs.Good.{good}
 use Rattle.runner.specs.Ran.{historyRoom, noWrites, runRefusal, wholeRun, completed, ran}
 use Rattle.lists.specs.Entries.{entryAt, noWrite, entry-read}
 use Rattle.transcript.specs.Transcript.{transcript}
-use Rattle.transcript.specs.Reading.{all-answered}
+use Rattle.runner.specs.Whole.{all-answered}
 use Rattle.oldmaster.specs.KeptOut.{KeptOut}
 use Rattle.oldmaster.specs.Growing.{nothing-before}
 use Rattle.oldmaster.specs.OldMaster.{kept-out}

@@ -1,3 +1,4 @@
 pub mod Difference
 pub mod Reads
 pub mod Entries
+pub mod Runs

@@ -4,13 +4,12 @@ use mathlib.Core.List.{List, [], _∷_, _++_}
 use Prim.Native.Nat.{ℕ}
 use lib.Dec.{eqb}
 use lib.ListN.{length}
-use Rattle.rules.specs.State.{Write}
 use Rattle.lists.specs.EventList.{nodeCount, refusal}
-use Rattle.runner.specs.Ran.{wholeRun}
 use Rattle.comparing.specs.declared.Finding.{Finding}
 use Rattle.comparing.specs.Compared.{comparison}
 use Rattle.partings.specs.declared.Parting.{Parting}
 use Rattle.partings.specs.Difference.{difference}
+use Rattle.partings.specs.Runs.{history}
 use Rattle.text.specs.Line.{line}
 use Rattle.report.specs.Words as W
 
@@ -31,10 +30,6 @@ partingLine d =
     cond (eqb (d .at) 0)
     (line W.agrees [])
     (line W.differs (d .at ∷ d .one .node ∷ d .one .term ∷ d .other .node ∷ d .other .term ∷ []))
-
--- The accepted writes of a run.
-abbrev pub history : List ℕ → List Write
-history list = wholeRun list .state .history
 
 -- How many writes each run accepts, and whether they are the same.
 unfoldable pub runsText : List ℕ → List ℕ → List ℕ

@@ -9,7 +9,7 @@ ghost use Rattle.lists.specs.Trails.{Trails};
 ghost use Rattle.comparing.specs.Compared.{comparison};
 ghost use Rattle.text.specs.Put.{Put};
 ghost use Rattle.report.specs.Report.{longest, verdictLine, partingLine, runsText, report};
-ghost use Rattle.report.specs.Runs.{Written};
+ghost use Rattle.partings.specs.Runs.{Written};
 use comparing::Finding;
 use lists::Trailer;
 use partings::Parting;

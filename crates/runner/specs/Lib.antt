@@ -4,3 +4,4 @@ pub mod Tables
 pub mod Advances
 pub mod Running
 pub mod Turning
+pub mod Whole

@@ -14,7 +14,8 @@ use Rattle.runner.specs.Refusing.{ran-all}
 use Rattle.text.specs.Lines.{refusedLine}
 use Rattle.transcript.specs.Transcript.{runText, transcript}
 use Rattle.transcript.specs.Bytes.{bytesText}
-use Rattle.transcript.specs.Reading.{bytes-text, all-answered, few-writes}
+use Rattle.runner.specs.Whole.{all-answered, few-writes}
+use Rattle.transcript.specs.Reading.{bytes-text}
 
 module _ (list : List ℕ) where
   pub refused-text : refusal list ≢ 0 → transcript list ≡ refusedLine (refusal list)

@@ -1,19 +1,12 @@
 -- What is read from the buffer that a run has filled is what the run gave. Assumes nothing.
-use mathlib.Core.Path.{_≡_, ap, ap₂, _∙_}
+use mathlib.Core.Path.{_≡_, ap, ap₂}
 use mathlib.Core.List.{List, _++_, append-assoc}
-use Prim.Native.Nat.{ℕ, _+_, _<_, _≤_}
+use Prim.Native.Nat.{ℕ, _+_, _<_}
 use native.Mathlib.Omega.{arith}
 use lib.ListN.{length, drop, List·getD-append}
 use lib.Seq.{drop-at}
-use Rattle.rules.specs.Limits.{historyLength}
 use Rattle.rules.specs.State.{Write}
-use Rattle.laws.specs.RangeTest.{range-sound}
-use Rattle.laws.specs.Steps.{run-keeps, fresh-fits}
-use Rattle.laws.specs.Runs.{run-length}
-use Rattle.rules.specs.Step.{step, fresh}
-use Rattle.lists.specs.EventList.{nodeCount, recordCount, records, historyBytes}
-use Rattle.lists.specs.Good.{Good, records-length}
-use Rattle.runner.specs.Ran.{wholeRun}
+use Rattle.lists.specs.EventList.{recordCount, historyBytes}
 use Rattle.text.specs.Lines.{writesLine}
 use Rattle.lists.specs.Entries.{entry-read}
 use Rattle.transcript.specs.Transcript.{recordLineAt, lineOf, runText}
@@ -32,12 +25,3 @@ module _ (list answers : List ℕ) (ws : List Write) (rest : List ℕ) (all : le
   bytes-text = ap₂ (λ (a b : List ℕ). a ++ writesLine (length ws) ++ b)
       (lines-same _ _ (recordCount list) answer-read)
       (lines-same _ _ (length ws) (λ i h. rw part (ap lineOf (entry-read ws rest i h))))
-
--- ---- a run of a good list
-
-module _ (list : List ℕ) (good : Good list) where
-  pub all-answered : length (wholeRun list .answer) ≡ recordCount list
-  all-answered = run-length step (fresh (nodeCount list)) (records list) ∙ records-length list
-
-  pub few-writes : length (wholeRun list .state .history) ≤ historyLength
-  few-writes = range-sound (wholeRun list .state) (run-keeps (records list) (fresh (nodeCount list)) (fresh-fits (nodeCount list) (good .nodes .lower) (good .nodes .upper))) .history-size

@@ -7,7 +7,7 @@ use lib.Seq.{length-take-le}
 use Rattle.seqs.specs.Tables.{table, table-length}
 use Rattle.runner.specs.Ran.{noWrites}
 use Rattle.text.specs.Puts.{put-length}
-use Rattle.report.specs.Runs.{Written}
+use Rattle.partings.specs.Runs.{Written}
 use Rattle.exchanges.specs.Bytes.{listOf, list-length}
 use Rattle.exchanges.specs.Filling.{stepAt, list-read}
 use Rattle.exchanges.specs.Ran.{ran-list}

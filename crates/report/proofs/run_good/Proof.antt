@@ -2,7 +2,7 @@
 use Prim.Native.Nat.{_-_, _≤_}
 use native.Mathlib.Omega.{arith}
 use Rattle.runner.specs.Ran.{noWrites}
-use Rattle.report.specs.Runs.{Written, written-run}
+use Rattle.partings.specs.Runs.{Written, written-run}
 use borrow.Author.Needs.{needs}
 use Rattle.report.proofs.run_good.Statement.{statement}
 use Rattle.report.proofs.run_good.Tie as tie
