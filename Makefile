@@ -26,7 +26,10 @@ programs:
 	@mkdir -p build
 	@rt check $(PROGRAMS) >build/program.log 2>&1 || { cat build/program.log; exit 1; }
 
-lib:
+lib: $(LIBRARY)
+
+# Made again only if a crate has changed.
+$(LIBRARY): crates.txt $(shell find crates -name '*.rt' -o -name '*.antt')
 	rt staticlib hoefspanker
 
 test:
@@ -35,7 +38,7 @@ test:
 bench: program lib
 	host/bench.sh
 
-install: programs lib
+install: programs $(LIBRARY)
 	install -d "$(DESTDIR)$(PREFIX)/bin" "$(DESTDIR)$(PREFIX)/include" "$(DESTDIR)$(PREFIX)/lib/pkgconfig"
 	install -m 755 target/bin/replay target/bin/compare target/bin/arbitration "$(DESTDIR)$(PREFIX)/bin"
 	install -m 755 target/bin/merge_log "$(DESTDIR)$(PREFIX)/bin/merges"

@@ -22,7 +22,7 @@ build_mutant() {
         echo "the edit changes nothing: $2"
         return 1
     fi
-    stand_in "$mutant/host" "$mutant" && use_library "$mutant/libhoefspanker.a" && "$3"
+    stand_in "$mutant/host" "$mutant" && use_library "$mutant/libhoefspanker.a" && build_calls && "$3"
 }
 
 # try_mistakes TABLE FOLDER BUILD COMPARISON ..: the mistakes of a table in the files

@@ -7,11 +7,9 @@ build_reading() {
 }
 
 build_compare_messages() {
-    rust_library library && rust_library arbitration/calls &&
-        rust_program arbitration/compare compare-messages
+    rust_program arbitration/compare compare-messages
 }
 
 build_peer() {
-    rust_library library && rust_library arbitration/calls &&
-        rust_program arbitration/peer peer
+    rust_program arbitration/peer peer
 }
