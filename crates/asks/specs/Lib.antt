@@ -1,2 +1,4 @@
+-- Definitions: Classes.
+-- Laws: Kinds.
 pub mod Classes
 pub mod Kinds

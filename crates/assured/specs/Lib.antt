@@ -1,3 +1,5 @@
+-- Believed: Assured.
+-- Laws: Meaning, Names, Lacks, Sample.
 pub mod Assured
 pub mod Meaning
 pub mod Names

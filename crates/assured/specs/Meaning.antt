@@ -12,7 +12,8 @@ use lib.Dec.{T}
 use Rattle.rules.specs.Codes.{badLength, badTrailer, badNodeCount, badSum}
 use Rattle.rules.specs.Step.{Event}
 use Rattle.merges.specs.Independent.{independent}
-use Rattle.seqs.specs.Tables.{table, table-ext}
+use Rattle.seqs.specs.Arrays.{table}
+use Rattle.seqs.specs.Tables.{table-ext}
 use Rattle.lists.specs.EventList.{nodeCount, recordCount, recordAt, records, need, lengthFits, trailerFits, nodesFit, sumFits, refusal}
 use Rattle.audit.specs.Audit.{audit}
 use Rattle.verdict.specs.Verdict.{Exchanges, Pulled, taken, blocked, missing, met, pull, whenTaken, exchangeable, sameEvent, Independent, sameMerge}

@@ -7,7 +7,7 @@ use mathlib.Core.List.{List, [], _∷_}
 use Prim.Native.Nat.{ℕ, zero, suc, _<_}
 use native.Mathlib.Omega.{arith}
 use Rattle.rules.specs.Step.{Event}
-use Rattle.laws.specs.InRange.{All}
+use Rattle.laws.specs.All.{All}
 use Rattle.merges.specs.Independent.{independent}
 use Rattle.lists.specs.EventList.{nodeCount, recordCount, recordAt}
 use Rattle.verdict.specs.Verdict.{Pulled, taken, blocked, missing, met, pull}

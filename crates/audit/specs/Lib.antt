@@ -1,3 +1,5 @@
+-- Believed: SameRun, Merged.
+-- Laws: Exchanges, Buffers, Audit.
 pub mod SameRun
 pub mod Exchanges
 pub mod Buffers

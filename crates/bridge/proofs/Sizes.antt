@@ -7,7 +7,7 @@ use denote.Array.{each}
 use denote.Laws.{Is}
 use denote.Struct.Field.{Field}
 use denote.Struct.Declared.{row, field}
-use Rattle.laws.specs.InRange.{All}
+use Rattle.laws.specs.All.{All}
 use Rattle.parts.proofs.Mastership as M
 use Rattle.parts.specs.declared.Mastership.{Mastership}
 use Rattle.state.proofs.Node as N

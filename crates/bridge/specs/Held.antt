@@ -11,9 +11,9 @@ use Rattle.rules.specs.State as S
 use Rattle.rules.specs.Range.{inRange}
 use Rattle.laws.specs.InRange.{WireFits, InRange}
 use Rattle.laws.specs.RangeTest.{range-sound}
-use Rattle.seqs.specs.Columns.{column}
+use Rattle.seqs.specs.Arrays.{column, table}
 use Rattle.seqs.specs.Padded.{held-padded}
-use Rattle.seqs.specs.Tables.{table, table-column}
+use Rattle.seqs.specs.Tables.{table-column}
 use Rattle.parts.specs.Hold.{holdMastership, packMastership, noMastership, holdRequest, packRequest, noRequest, holdResponse, packResponse, noResponse}
 use Rattle.parts.specs.Ordered.{mastership-back, request-back, response-back}
 use Rattle.state.specs.Hold.{eventsAt, learnedAt, saysAt, openAt, sentAt, requestsAt, responsesAt, idAt, termAt, nodeRow, streamRow, idRow, termRow, packNodes, packStreams, packClaims, packCore, packHistory, packWrite, noWrite, holdWrite, holdWire, holdDesk, holdCore, holdHistory, hold, represent}

@@ -1,3 +1,5 @@
+-- Believed: Sized.
+-- Laws: Rows, Same, Held, InOrder, Passes, Exact.
 pub mod Rows
 pub mod Sized
 pub mod Same

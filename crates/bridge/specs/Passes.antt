@@ -9,12 +9,12 @@ use lib.ListN.{length, getD, take, drop, List·getD-eq-default}
 use Rattle.rules.specs.Limits.{mostNodes, queueLength, historyLength}
 use Rattle.rules.specs.State as S
 use Rattle.rules.specs.Range.{all, inRange}
-use Rattle.laws.specs.InRange.{All, CoreFits}
+use Rattle.laws.specs.All.{All}
+use Rattle.laws.specs.InRange.{CoreFits}
 use Rattle.laws.specs.RangeTest.{range-sound}
 use Rattle.laws.specs.Tests.{_&_, as-is, is-yes, is-le, is-all}
 use Rattle.laws.specs.Lists.{all-each}
-use Rattle.seqs.specs.Padded.{padded}
-use Rattle.seqs.specs.Tables.{table}
+use Rattle.seqs.specs.Arrays.{padded, table}
 use Rattle.parts.specs.Hold.{asIs, packMastership, noMastership, packMessage, packRequest, noRequest, packStatus, packResponse, noResponse}
 use Rattle.state.specs.Hold.{packNode, packStream, nodeRow, streamRow, idRow, termRow, packNodes, packStreams, packClaims, packCore, packHistory, packWrite, noWrite, hold, represent}
 use Rattle.state.specs.Tidy.{isZero, noMessage, noStatus, blankMastership, blankRequest, blankResponse, tidyMastership, tidyRequest, tidyResponse, tidyPlaces, tidyNode, tidyStream, blankNode, blankStream, blankId, blankTerm, tidyCore, anyWrite, blankWrite, tidyHistory, stateFits}

@@ -9,12 +9,12 @@ use native.Mathlib.Decide.{decLt}
 use lib.Dec.{T}
 use lib.ListN.{length, getD, take, drop, List·getD-eq-default}
 use Rattle.rules.specs.Range.{all}
-use Rattle.laws.specs.InRange.{All}
+use Rattle.laws.specs.All.{All}
 use Rattle.laws.specs.Tests.{as-is, is-all}
 use Rattle.laws.specs.Lists.{all-with}
-use Rattle.seqs.specs.Columns.{column, length-column}
-use Rattle.seqs.specs.Padded.{padded}
-use Rattle.seqs.specs.Tables.{table, table-of}
+use Rattle.seqs.specs.Arrays.{column, padded, table}
+use Rattle.seqs.specs.Columns.{length-column}
+use Rattle.seqs.specs.Tables.{table-of}
 
 -- ---- the first n elements and the others
 

@@ -10,11 +10,11 @@ use lib.Seq.{length-take-le}
 use Rattle.rules.specs.Limits.{mostNodes, queueLength, historyLength}
 use Rattle.rules.specs.Range.{all, inRange}
 use Rattle.rules.specs.State as S
-use Rattle.laws.specs.InRange.{All}
+use Rattle.laws.specs.All.{All}
 use Rattle.laws.specs.RangeTest.{range-sound}
 use Rattle.laws.specs.Tests.{_&_, as-is, is-not, is-le, is-eq, is-all, is-yes}
-use Rattle.seqs.specs.Columns.{column, column-at}
-use Rattle.seqs.specs.Padded.{padded}
+use Rattle.seqs.specs.Arrays.{column, padded}
+use Rattle.seqs.specs.Columns.{column-at}
 use Rattle.parts.specs.declared.Mastership.{Mastership}
 use Rattle.parts.specs.declared.Message.{Message}
 use Rattle.parts.specs.declared.Message.the-variants as M

@@ -1,3 +1,5 @@
+-- Believed: Compare, Compared.
+-- Laws: Left, Obstacles, Walk, Refusing.
 pub mod Compare
 pub mod Left
 pub mod Obstacles

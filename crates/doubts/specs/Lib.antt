@@ -1,3 +1,5 @@
+-- Believed: Doubts.
+-- Laws: Index, Search, Found, Inside, Nothing.
 pub mod Doubts
 pub mod Index
 pub mod Search

@@ -7,18 +7,14 @@ use native.Mathlib.Omega.{arith}
 use native.Mathlib.Decide.{ℕ-discrete}
 use lib.Dec.{T}
 use lib.ListN.{length, getD}
-use Rattle.laws.specs.InRange.{All}
+use Rattle.laws.specs.All.{All}
 use Rattle.verdict.specs.Pairs.{kept, only}
 use Rattle.verdict.specs.Clocks.{Logged, clocks, fixed, NoDoubt}
 use Rattle.places.specs.Places.{from}
 use Rattle.logtext.specs.Log.{Row}
 use Rattle.records.specs.Rows.{noRow}
 use Rattle.doubts.specs.declared.Pair.{Pair}
-use Rattle.doubts.specs.Doubts.{inDoubt, doubtAt, pairsWith, pairs, doubts}
-
--- The records of a log, without their lines.
-abbrev pub merged : List Row → List Logged
-merged rows = map (λ r. r .logged) rows
+use Rattle.doubts.specs.Doubts.{merged, inDoubt, doubtAt, pairsWith, pairs, doubts}
 
 -- ---- no pair passes the test
 

@@ -10,7 +10,7 @@ use borrow.Author.Tests.{eq-eqb, le-leb}
 use Rattle.rules.specs.Limits.{mostNodes}
 use Rattle.rules.specs.Range.{within}
 use Rattle.rules.specs.Step.{Event}
-use Rattle.laws.specs.InRange.{All}
+use Rattle.laws.specs.All.{All}
 use Rattle.seqs.specs.Tables.{table-of}
 use Rattle.lists.specs.EventList.{trailerLength, longest, byteAt, numberAt, trailerAt, firstRecord, recordCount, nodeCount, refusal, eventAt, recordAt, records}
 

@@ -8,7 +8,7 @@ use Rattle.rules.specs.State.{Write}
 use Rattle.rules.specs.Range.{all}
 use Rattle.rules.specs.Step.{step, fresh}
 use Rattle.rules.specs.Run.{run}
-use Rattle.seqs.specs.Tables.{table}
+use Rattle.seqs.specs.Arrays.{table}
 use Rattle.places.specs.Places.{from}
 use Rattle.partings.specs.declared.Parting.{Parting}
 use Rattle.partings.specs.Difference.{difference}

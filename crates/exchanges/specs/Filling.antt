@@ -8,7 +8,8 @@ use native.Mathlib.Omega.{arith}
 use lib.ListN.{length, getD, take, drop}
 use lib.Seq.{take-suc, take-all, take-at, sets-eq}
 use Rattle.rules.specs.Step.{Event}
-use Rattle.seqs.specs.Tables.{table, table-get, table-length}
+use Rattle.seqs.specs.Arrays.{table}
+use Rattle.seqs.specs.Tables.{table-get, table-length}
 use Rattle.text.specs.Put.{Put}
 use Rattle.text.specs.Puts.{put-none, put-then}
 use Rattle.records.specs.Rows.{rowIn}

@@ -1,3 +1,5 @@
+-- Believed: Exchange.
+-- Laws: Bytes, Moves, Filling, Ran, Passing.
 pub mod Exchange
 pub mod Bytes
 pub mod Moves

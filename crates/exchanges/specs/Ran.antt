@@ -7,12 +7,13 @@ use native.Mathlib.Omega.{arith}
 use lib.ListN.{length, getD, drop}
 use Rattle.rules.specs.Step.{Event, step, fresh}
 use Rattle.rules.specs.Run.{run}
-use Rattle.laws.specs.InRange.{All}
-use Rattle.seqs.specs.Tables.{table, table-get, table-length}
+use Rattle.laws.specs.All.{All}
+use Rattle.seqs.specs.Arrays.{table}
+use Rattle.seqs.specs.Tables.{table-get, table-length}
 use Rattle.runner.specs.Ran.{noWrites, historyRoom, ran}
 use Rattle.partings.specs.declared.Parting.{Parting}
-use Rattle.partings.specs.Difference.{difference, entries}
-use Rattle.partings.specs.Runs.{history, Written, written-run}
+use Rattle.partings.specs.Difference.{difference, entries, history}
+use Rattle.partings.specs.Runs.{Written, written-run}
 use Rattle.logtext.specs.Log.{Row}
 use Rattle.records.specs.Rows.{noRow, rowIn, rowsIn, stepsOf}
 use Rattle.exchanges.specs.Exchange.{moved, exchanged, historyOf, partingOf}

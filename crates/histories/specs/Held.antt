@@ -5,7 +5,7 @@ use mathlib.Core.List.{List}
 use Prim.Native.Nat.{ℕ, _-_}
 use lib.ListN.{drop}
 use Rattle.rules.specs.State.{Write}
-use Rattle.seqs.specs.Tables.{table}
+use Rattle.seqs.specs.Arrays.{table}
 use Rattle.lists.specs.EventList.{nodeCount, recordCount, records, refusal}
 use Rattle.runner.specs.Ran.{noWrites, Ran, ran}
 use Rattle.lists.specs.Entries.{entryAt}

@@ -10,9 +10,9 @@ use lib.Dec.{leb}
 use borrow.Author.Tests.{le-leb, lt-leb}
 use Rattle.rules.specs.State.{Write}
 use Rattle.lists.specs.EventList.{recordCount, recordAt}
-use Rattle.text.specs.Decimal.{digit, decimal}
+use Rattle.text.specs.Decimal.{digit, decimal, saidAfter}
 use Rattle.text.specs.Lines.{blank, newline, number, recordLine, writesLine, writeLine}
-use Rattle.text.specs.Digits.{Digits, end, next, only-digits, saidAfter, says-itself}
+use Rattle.text.specs.Digits.{Digits, end, next, only-digits, says-itself}
 use Rattle.lists.specs.Entries.{noWrite}
 use Rattle.transcript.specs.Transcript.{lines, runText}
 

@@ -12,11 +12,13 @@ use Rattle.rules.specs.Codes.{bufferShort}
 use Rattle.rules.specs.State.{Write}
 use Rattle.rules.specs.Step.{Event}
 use Rattle.laws.specs.Tests.{is-eq}
-use Rattle.seqs.specs.Tables.{table, table-of}
+use Rattle.seqs.specs.Arrays.{table}
+use Rattle.seqs.specs.Tables.{table-of}
 use Rattle.lists.specs.EventList.{nodeCount, recordCount, records, refusal, need, lengthFits, trailerFits, nodesFit, sumFits, historyBytes}
 use Rattle.lists.specs.Good.{good}
 use Rattle.runner.specs.Ran.{historyRoom, noWrites, runRefusal, wholeRun, completed, ran}
-use Rattle.lists.specs.Entries.{entryAt, noWrite, entry-read}
+use Rattle.lists.specs.Written.{entry-read}
+use Rattle.lists.specs.Entries.{entryAt, noWrite}
 use Rattle.transcript.specs.Transcript.{transcript}
 use Rattle.runner.specs.Whole.{all-answered}
 use Rattle.oldmaster.specs.KeptOut.{KeptOut}

@@ -7,6 +7,7 @@ use lib.Dec.{T}
 use Rattle.rules.specs.Codes.{stepDone, outOfRange, unknownKind, unknownNode, notAllowed, termsSpent, historyFull, queueFull}
 use Rattle.rules.specs.State.{State}
 use Rattle.rules.specs.Range.{inRange}
+use Rattle.rules.specs.Part.{Rule}
 use Rattle.rules.specs.Parts.{Reads, part}
 use Rattle.rules.specs.Rules.{Kind, classOf, rule}
 use Rattle.rules.specs.Step.{Event, kindOf, called}
@@ -24,6 +25,13 @@ pub record Reaches (e : Event) (s : State) (k : Kind) : Type 0 where
   pub in-range : T (inRange s)
   pub kind : kindOf (e .kind) ≡ some k
   pub node : T (called (classOf k) (s .count) (e .node))
+
+-- Every test of a rule holds, where this is what it reads.
+pub record Passes {R W : Type 0} (r : Rule R W) (v : R) : Type 0 where
+  pub allowed : T (r .allowed v)
+  pub term : T (r .termLeft v)
+  pub history : T (r .historyLeft v)
+  pub queues : T (r .queuesLeft v)
 
 -- The four tests of the rule of kind k, at the event's node.
 module _ (e : Event) (s : State) (k : Kind) where

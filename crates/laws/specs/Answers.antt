@@ -12,8 +12,8 @@ use Rattle.rules.specs.Parts.{Writes, part}
 use Rattle.rules.specs.Rules.{Kind, classOf, rule}
 use Rattle.rules.specs.Step.{Event, kindOf, called, act, refused, atNode, ofKind, ofState, step}
 use Rattle.laws.specs.Tests.{is-yes, is-not}
-use Rattle.laws.specs.Decide.{Passes, Decided, barred, no-term, no-history, no-queue, passed, decides, via-is}
-use Rattle.laws.specs.Answered.{sees, after, Reaches, Answered, step-done, out-of-range, unknown-kind, unknown-node, not-allowed, terms-spent, history-full, queue-full}
+use Rattle.laws.specs.Answered.{Passes, sees, after, Reaches, Answered, step-done, out-of-range, unknown-kind, unknown-node, not-allowed, terms-spent, history-full, queue-full}
+use Rattle.laws.specs.Decide.{Decided, barred, no-term, no-history, no-queue, passed, decides, via-is}
 
 -- Why a rule that is reached refuses.
 refusal : (e : Event) (s : State) (k : Kind) → Reaches e s k → (a : ℕ) → Decided (rule k (e .node)) (sees k (e .node) s) (refuse a) → Answered e s a

@@ -5,16 +5,10 @@ use Prim.Native.Nat.{ℕ}
 use lib.Dec.{T}
 use Rattle.rules.specs.Codes.{stepDone, notAllowed, termsSpent, historyFull, queueFull}
 use Rattle.rules.specs.Part.{Result, Out, refuse, done, Part, settle, via, Rule, need, decide}
+use Rattle.laws.specs.Answered.{Passes}
 use Rattle.laws.specs.Tests.{is-yes, is-not}
 
 module _ {R W : Type 0} where
-  -- Every test of the rule holds.
-  pub record Passes (r : Rule R W) (v : R) : Type 0 where
-    pub allowed : T (r .allowed v)
-    pub term : T (r .termLeft v)
-    pub history : T (r .historyLeft v)
-    pub queues : T (r .queuesLeft v)
-
   -- The five ends of `decide`, each with the tests that lead to it.
   pub data Decided (r : Rule R W) (v : R) : Out ℕ W → Type 0 where
     barred : T (not (r .allowed v)) → Decided r v (refuse notAllowed)

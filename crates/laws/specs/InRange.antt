@@ -7,12 +7,9 @@ use Prim.Native.Nat.{ℕ, _≤_}
 use lib.ListN.{length, getD}
 use Rattle.rules.specs.Limits.{mostNodes, topTerm, topId, queueLength, historyLength}
 use Rattle.rules.specs.State.{Mastership, Message, update, write, Status, ok, alreadyExists, permissionDenied, Request, Response, Write, Desk, Wire, Core, State, blank}
+use Rattle.laws.specs.All.{All}
 
 -- ---- of any list
-
-abbrev pub All : {A : Type 0} → (A → Type 0) → List A → Type 0
-All P [] = Unit {0}
-All P (x ∷ l) = P x × All P l
 
 -- x is not in the list.
 abbrev pub Absent : ℕ → List ℕ → Type 0

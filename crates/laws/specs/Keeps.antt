@@ -13,12 +13,13 @@ use Rattle.rules.specs.Range.{within}
 use Rattle.rules.specs.Parts.{withCore, withWire, Inbox, Sent, Received, Telling, Serving, Power, servicePart, learnPart, sendPart, receivePart, onDevice, tellPart, servePart, powerPart, part}
 use Rattle.rules.specs.Rules.{connectRule, shutdownRule, startupRule, Kind, classOf, rule, join, leave, learns, sendUpdate, receiveUpdate, sendWrite, receiveWrite, connect, close, handleUpdate, handleWrite, shutdown, startup}
 use Rattle.rules.specs.Step.{called, act}
-use Rattle.laws.specs.InRange.{All, Within, QueueFits, MastershipFits, LearnedFits, unlearned, DeskFits, WireFits, WriteFits, CoreFits, InRange}
+use Rattle.laws.specs.All.{All}
+use Rattle.laws.specs.InRange.{Within, QueueFits, MastershipFits, LearnedFits, unlearned, DeskFits, WireFits, WriteFits, CoreFits, InRange}
 use Rattle.laws.specs.Tests.{_&_, as-is, is-yes, is-within}
 use Rattle.laws.specs.Lists.{all-append, all-set, all-getD, queue-none}
-use Rattle.laws.specs.Decide.{Passes, via-is}
+use Rattle.laws.specs.Answered.{Passes, sees, after}
+use Rattle.laws.specs.Decide.{via-is}
 use Rattle.laws.specs.Wires.{own-queue, responses-fit, Anew, rewired-fits, open-fits, opened-fits}
-use Rattle.laws.specs.Answered.{sees, after}
 use Rattle.laws.specs.KeepsService.{join-fits, leave-fits}
 use Rattle.laws.specs.KeepsNode.{InboxFits, learn-fits, SentFits, send-update-fits, send-write-fits, ReceivedFits, receive-update-fits, receive-write-fits}
 use Rattle.laws.specs.KeepsTelling.{close-fits, handle-update-fits}

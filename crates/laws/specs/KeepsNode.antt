@@ -14,7 +14,7 @@ use Rattle.laws.specs.InRange.{Within, QueueFits, MastershipFits, Learne
 use Rattle.laws.specs.Tests.{_&_, as-is, is-yes, is-lt, is-le, is-eq}
 use Rattle.laws.specs.Lists.{queue-rest, queue-first, queue-push}
 use Rattle.laws.specs.Ids.{id-within, asked-within}
-use Rattle.laws.specs.Decide.{Passes}
+use Rattle.laws.specs.Answered.{Passes}
 
 -- ---- 3 Learn
 

@@ -12,10 +12,11 @@ use Rattle.rules.specs.State.{Mastership, Desk}
 use Rattle.rules.specs.Queues.{push, first, rest, empty, room, roomAll, has, remove}
 use Rattle.rules.specs.Ids.{named}
 use Rattle.rules.specs.Rules.{posted, unposted, vacant, joined, joinRule, handsOver, left, leaveRule}
-use Rattle.laws.specs.InRange.{All, Distinct, Within, QueueFits, BackupFits, MastershipFits, ServiceFits, masterless, ruled, DeskFits}
+use Rattle.laws.specs.All.{All}
+use Rattle.laws.specs.InRange.{Distinct, Within, QueueFits, BackupFits, MastershipFits, ServiceFits, masterless, ruled, DeskFits}
 use Rattle.laws.specs.Tests.{_&_, is-neither, as-is, is-lt, is-ne, is-eq, is-absent}
 use Rattle.laws.specs.Lists.{all-with, all-push, queue-push, distinct-push, all-remove, distinct-remove}
-use Rattle.laws.specs.Decide.{Passes}
+use Rattle.laws.specs.Answered.{Passes}
 
 module _ (count : ℕ) where
   -- ---- posting

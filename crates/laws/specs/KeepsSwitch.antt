@@ -11,11 +11,12 @@ use Rattle.rules.specs.State.{Request, Response, Status, ok, permissionDenied, 
 use Rattle.rules.specs.Queues.{push, first, rest, empty}
 use Rattle.rules.specs.Parts.{Served, Serving}
 use Rattle.rules.specs.Rules.{isWrite, noRequest, accepts, writeAnswer, handleWriteRule, cleared}
-use Rattle.laws.specs.InRange.{All, DistinctIds, Within, QueueFits, RequestFits, ResponseFits, WriteFits, WireFits}
+use Rattle.laws.specs.All.{All}
+use Rattle.laws.specs.InRange.{DistinctIds, Within, QueueFits, RequestFits, ResponseFits, WriteFits, WireFits}
 use Rattle.laws.specs.Tests.{_&_, as-is, is-yes, is-lt}
 use Rattle.laws.specs.RangeTest.{no-stream}
 use Rattle.laws.specs.Lists.{all-replicate, replicate-at, queue-rest, queue-first, queue-push}
-use Rattle.laws.specs.Decide.{Passes}
+use Rattle.laws.specs.Answered.{Passes}
 
 -- ---- 11 Handle write
 

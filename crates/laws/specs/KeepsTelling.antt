@@ -17,7 +17,7 @@ use Rattle.rules.specs.Rules.{isUpdate, noRequest, idsLeft, opensLeft, response
 use Rattle.laws.specs.InRange.{QueueFits, RequestFits, AnswerFits, ResponseFits, WireFits}
 use Rattle.laws.specs.Tests.{_&_, as-is, is-yes, is-absent}
 use Rattle.laws.specs.Lists.{all-set, at-set, queue-none, queue-rest, queue-first, queue-push, ids-set}
-use Rattle.laws.specs.Decide.{Passes}
+use Rattle.laws.specs.Answered.{Passes}
 use Rattle.laws.specs.Wires.{ResponsesFit, own-queue, responses-fit, Anew}
 
 -- ---- what is told

@@ -1,3 +1,7 @@
+-- Believed: All, Answered.
+-- Definitions: Computed, InRange.
+-- Laws: Tests, RangeTest, Lists, Ids, Decide, Wires, KeepsService, KeepsNode, KeepsTelling, KeepsSwitch, Keeps, Answers, Steps, Runs, Kinds.
+pub mod All
 pub mod Computed
 pub mod InRange
 pub mod Answered

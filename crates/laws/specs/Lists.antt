@@ -11,7 +11,8 @@ use lib.Dec.{T, eqb}
 use borrow.Author.Tests.{eq-eqb, ne-eqb}
 use Rattle.rules.specs.Limits.{queueLength}
 use Rattle.rules.specs.Queues.{push, first, rest, empty, room, has, remove, before}
-use Rattle.laws.specs.InRange.{All, Absent, Distinct, DistinctIds, Within, QueueFits}
+use Rattle.laws.specs.All.{All}
+use Rattle.laws.specs.InRange.{Absent, Distinct, DistinctIds, Within, QueueFits}
 use Rattle.laws.specs.Tests.{is-lt}
 
 -- ---- every element

@@ -10,7 +10,8 @@ use lib.Dec.{T, leb, ltb, eqb, leb→le, le→leb, ltb→lt, lt→ltb, eqb→eq}
 use borrow.Author.Tests.{eq-eqb, ne-eqb}
 use Rattle.rules.specs.Queues.{empty, has}
 use Rattle.rules.specs.Range.{all, each, within, distinct, distinctIds}
-use Rattle.laws.specs.InRange.{All, Absent, Distinct, DistinctIds, Within}
+use Rattle.laws.specs.All.{All}
+use Rattle.laws.specs.InRange.{Absent, Distinct, DistinctIds, Within}
 
 -- The test is true exactly when P holds.
 pub record Is (b : Bool) (P : Type 0) : Type 0 where

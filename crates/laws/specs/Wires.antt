@@ -9,7 +9,8 @@ use lib.Seq.{getD-set-same, getD-set-other, set-getD}
 use Rattle.rules.specs.Limits.{topTerm, topId}
 use Rattle.rules.specs.State.{Request, Response, Wire}
 use Rattle.rules.specs.Parts.{Telling}
-use Rattle.laws.specs.InRange.{All, DistinctIds, QueueFits, RequestFits, ResponseFits, Shut, StreamAt, WireFits}
+use Rattle.laws.specs.All.{All}
+use Rattle.laws.specs.InRange.{DistinctIds, QueueFits, RequestFits, ResponseFits, Shut, StreamAt, WireFits}
 use Rattle.laws.specs.Lists.{at-set}
 
 -- All response queues, by who is open.

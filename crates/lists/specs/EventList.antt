@@ -9,7 +9,7 @@ use Rattle.rules.specs.Codes.{badLength, badTrailer, badNodeCount, badSum}
 use Rattle.rules.specs.State.{Write}
 use Rattle.rules.specs.Range.{within}
 use Rattle.rules.specs.Step.{Event}
-use Rattle.seqs.specs.Tables.{table}
+use Rattle.seqs.specs.Arrays.{table}
 
 abbrev pub trailerLength : ℕ
 trailerLength = 12

@@ -1,8 +1,11 @@
+-- Believed: EventList, Entries.
+-- Definitions: Reads.
+-- Laws: Good, Trails, Stores, Written, Sample.
 pub mod EventList
+pub mod Entries
 pub mod Reads
 pub mod Good
 pub mod Trails
 pub mod Stores
 pub mod Written
-pub mod Entries
 pub mod Sample

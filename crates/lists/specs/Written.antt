@@ -1,13 +1,15 @@
 -- A buffer as a run fills it: the answers from its front on, and behind the place of the last answer the entries of the history. Assumes nothing.
 use mathlib.Core.Path.{_≡_, refl, sym, ap, _∙_}
 use mathlib.Core.List.{List, [], _∷_, _++_, append-assoc, append-nil}
-use Prim.Native.Nat.{ℕ, _+_, _*_, _≤_, _<_}
+use Prim.Native.Nat.{ℕ, zero, suc, _+_, _*_, _≤_, _<_}
+use native.Mathlib.Nat.{le-of-suc-le-suc}
 use native.Mathlib.Omega.{arith}
-use lib.ListN.{length, set, take, drop, length-append, length-drop, take-append-drop, drop-of-length-le}
-use lib.Seq.{sets, sets-eq, set-append-left, length-take-le, take-append-seam, drop-append-add, drop-drop}
+use lib.ListN.{length, getD, set, take, drop, length-append, length-drop, take-append-drop, drop-of-length-le}
+use lib.Seq.{getD-append-add, sets, sets-eq, set-append-left, length-take-le, take-append-seam, drop-append-add, drop-drop}
 use Rattle.rules.specs.State.{Write}
 use Rattle.rules.specs.Queues.{push}
-use Rattle.lists.specs.EventList.{entryBytes, historyBytes, over}
+use Rattle.lists.specs.EventList.{byteAt, entryBytes, historyBytes, over}
+use Rattle.lists.specs.Entries.{entryAt, noWrite}
 use Rattle.lists.specs.Stores.{sets-behind}
 
 -- ---- bytes at the front of a buffer
@@ -33,6 +35,21 @@ pub history-push : (ws : List Write) (w : Write) → historyBytes (push w ws) �
 unfolding historyBytes push
 history-push [] w = refl
 history-push (v ∷ ws) w = ap (λ (t : List ℕ). entryBytes v ++ t) (history-push ws w)
+
+first-entry : (w : Write) (l : List ℕ) → entryAt (entryBytes w ++ l) 0 ≡ w
+first-entry w l = ap (λ (t : ℕ). record { node = w .node; term = t }) (omega arith)
+
+next-entry : (w : Write) (l : List ℕ) (i : ℕ) → entryAt (entryBytes w ++ l) (suc i) ≡ entryAt l i
+next-entry w l i =
+    let at : (j k : ℕ) → j ≡ 4 + k → byteAt (entryBytes w ++ l) j ≡ byteAt l k = λ j k e. rw e (getD-append-add (entryBytes w) l k 0) in
+    rw (at (4 * suc i) (4 * i) (omega arith), at (4 * suc i + 2) (4 * i + 2) (omega arith), at (4 * suc i + 3) (4 * i + 3) (omega arith))
+
+-- what was written is read
+pub entry-read : (ws : List Write) (l : List ℕ) (i : ℕ) → i < length ws → entryAt (historyBytes ws ++ l) i ≡ getD ws i noWrite
+unfolding historyBytes
+entry-read [] l i h = absurd (omega arith)
+entry-read (w ∷ ws) l zero h = first-entry w (historyBytes ws ++ l)
+entry-read (w ∷ ws) l (suc i) h = next-entry w (historyBytes ws ++ l) i ∙ entry-read ws l i (le-of-suc-le-suc h)
 
 -- one entry more, in a part of a buffer
 pub entries-more : (ws : List Write) (w : Write) (part : List ℕ) → 4 * length ws + 4 ≤ length part

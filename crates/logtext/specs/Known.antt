@@ -9,7 +9,7 @@ use lib.ListN.{length, length-append}
 use borrow.Author.Tests.{ltb-true, leb-true}
 use Rattle.rules.specs.Limits.{mostNodes}
 use Rattle.rules.specs.Range.{within}
-use Rattle.laws.specs.InRange.{All}
+use Rattle.laws.specs.All.{All}
 use Rattle.laws.specs.Lists.{all-append}
 use Rattle.laws.specs.Tests.{is-within}
 use Rattle.logtext.specs.declared.Line.{Line}

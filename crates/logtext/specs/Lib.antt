@@ -1,3 +1,5 @@
+-- Believed: Text, Log.
+-- Laws: Words, Numbers, Scan, Known, Reads.
 pub mod Text
 pub mod Words
 pub mod Numbers

@@ -11,7 +11,7 @@ use lib.ListN.{length, getD, drop}
 use lib.Seq.{drop-cons, drop-length}
 use borrow.Author.Tests.{le-leb, lt-leb, leb-true}
 use Rattle.rules.specs.Range.{all}
-use Rattle.text.specs.Digits.{saidAfter}
+use Rattle.text.specs.Decimal.{saidAfter}
 use Rattle.logtext.specs.declared.Number.the-variants.{Value, Bad}
 use Rattle.logtext.specs.Text.{isDigit, numberOf}
 

@@ -8,7 +8,7 @@ use lib.ListN.{length}
 use Rattle.rules.specs.Queues.{empty}
 use Rattle.rules.specs.Range.{all}
 use Rattle.verdict.specs.Pairs.{only}
-use Rattle.text.specs.Digits.{saidAfter}
+use Rattle.text.specs.Decimal.{saidAfter}
 use Rattle.logtext.specs.declared.Number.{Number}
 use Rattle.logtext.specs.declared.Number.the-variants.{Value, Bad}
 use Rattle.logtext.specs.declared.Line.{Line}

@@ -8,7 +8,7 @@ use Rattle.rules.specs.State.{State}
 use Rattle.rules.specs.Step.{Event, step, fresh}
 use Rattle.rules.specs.Run.{run}
 use Rattle.laws.specs.Computed.{computed}
-use Rattle.laws.specs.InRange.{All}
+use Rattle.laws.specs.All.{All}
 use Rattle.laws.specs.Tests.{Is, is-map, _&_, as-is, is-not, is-eq, is-all}
 use Rattle.merges.specs.Independent.{listed, exists, independent}
 use Rattle.merges.specs.Demand.{Allowed}

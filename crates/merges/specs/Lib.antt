@@ -1,3 +1,5 @@
+-- Believed: Independent, Demand.
+-- Laws: Apart, Parts, Listed, Commutes, Exchange, Examples.
 pub mod Independent
 pub mod Demand
 pub mod Apart

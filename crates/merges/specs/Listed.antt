@@ -14,7 +14,7 @@ use Rattle.rules.specs.Part.{Part}
 use Rattle.rules.specs.Parts.{Device, onDevice, linkPart, tellPart, servePart, powerPart, Class, service, learn, send, receive, part}
 use Rattle.rules.specs.Rules.{Kind, classOf}
 use Rattle.rules.specs.Step.{Event, kindOf, called}
-use Rattle.laws.specs.InRange.{All}
+use Rattle.laws.specs.All.{All}
 use Rattle.laws.specs.Tests.{_&_, as-is, is-ne, is-within}
 use Rattle.merges.specs.Independent.{switchKinds, nodeKinds, Line, lines, admits, names, listed}
 use Rattle.merges.specs.Apart.{Apart, apart-sym}

@@ -8,7 +8,8 @@ use native.Mathlib.Omega.{arith}
 use Rattle.rules.specs.Codes.{stepDone, notAllowed}
 use Rattle.rules.specs.State as S
 use Rattle.rules.specs.Part.{Out, refuse, done, Part, settle, via, Rule, decide}
-use Rattle.laws.specs.Decide.{Passes, Decided, barred, no-term, no-history, no-queue, passed, decided, decides, via-is}
+use Rattle.laws.specs.Answered.{Passes}
+use Rattle.laws.specs.Decide.{Decided, barred, no-term, no-history, no-queue, passed, decided, decides, via-is}
 use Rattle.state.specs.Reads.{answerOf}
 use Rattle.state.specs.declared.Body.{Body}
 use Rattle.state.specs.declared.Moved.{Moved}

@@ -5,7 +5,8 @@ use Prim.Native.Nat.{ℕ, _-_, _<_}
 use lib.ListN.{length, getD}
 use Rattle.rules.specs.State as S
 use Rattle.rules.specs.Parts.{learnPart, sendPart, receivePart, linkPart, servePart, onDevice}
-use Rattle.seqs.specs.Columns.{column, column-at}
+use Rattle.seqs.specs.Arrays.{column}
+use Rattle.seqs.specs.Columns.{column-at}
 use Rattle.state.specs.Hold.{eventsAt, learnedAt, saysAt, openAt, sentAt, requestsAt, responsesAt, holdCore, holdDesk, holdWire}
 use Rattle.state.specs.Order.{pastNode, pastStream}
 use Rattle.state.specs.Reads.{inboxOf, senderOf, receiverOf, linkedOf, servedOf}

@@ -1,3 +1,5 @@
+-- Definitions: Bodies, Sets.
+-- Laws: Gets, Puts, Stored, Acts.
 pub mod Bodies
 pub mod Sets
 pub mod Gets

@@ -10,7 +10,7 @@ use Rattle.rules.specs.State as S
 use Rattle.rules.specs.Parts.{Inbox, Sent, Received, Telling, Serving, Power, servicePart, learnPart, sendPart, receivePart, linkPart, tellPart, servePart, powerPart, onDevice}
 use Rattle.laws.specs.InRange.{CoreFits}
 use Rattle.laws.specs.RangeTest.{range-sound}
-use Rattle.seqs.specs.Columns.{column}
+use Rattle.seqs.specs.Arrays.{column}
 use Rattle.parts.specs.Hold.{packMastership}
 use Rattle.parts.specs.Ordered.{OrderedMastership}
 use Rattle.parts.specs.declared.Mastership.{Mastership}

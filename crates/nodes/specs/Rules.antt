@@ -14,7 +14,8 @@ use Rattle.rules.specs.Queues.{first, empty}
 use Rattle.rules.specs.Ids.{named, termOf}
 use Rattle.rules.specs.Rules.{learnRule, sendUpdateRule, receiveUpdateRule, sendWriteRule, isUpdate, isWrite, isOk, confirms}
 use Rattle.rules.specs.Rules as R
-use Rattle.seqs.specs.Queue.{Queue, packed, head-held, empty-held}
+use Rattle.seqs.specs.Arrays.{Queue, packed}
+use Rattle.seqs.specs.Queue.{head-held, empty-held}
 use Rattle.parts.specs.Hold.{packMastership, holdMastership, noMastership, pastMastership, eventsQueue, holdEvents, packResponse, holdResponse, noResponse, responsesQueue, holdResponses, holdMessage, holdStatus}
 use Rattle.parts.specs.Ordered.{OrderedEvents, OrderedResponses, response-back}
 use Rattle.parts.specs.declared.Mastership.{Mastership}

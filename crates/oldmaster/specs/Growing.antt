@@ -4,7 +4,7 @@ use mathlib.Core.List.{List, [], _∷_, _++_, append-nil, List·Memᴰ, List·Me
 use Prim.Native.Nat.{ℕ}
 use native.Mathlib.Omega.{arith}
 use lib.Seq.{append-snoc}
-use Rattle.laws.specs.InRange.{All}
+use Rattle.laws.specs.All.{All}
 
 module _ {A : Type 0} where
   pub nothing-before : (before behind : List A) → before ++ behind ≡ [] → before ≡ []

@@ -8,7 +8,7 @@ use Rattle.rules.specs.State.{Mastership, update, write, Request, Write, State}
 use Rattle.rules.specs.Queues.{push}
 use Rattle.rules.specs.Ids.{electionId}
 use Rattle.rules.specs.Step.{Event}
-use Rattle.laws.specs.InRange.{All}
+use Rattle.laws.specs.All.{All}
 use Rattle.laws.specs.Lists.{all-each, all-append, all-push}
 use Rattle.oldmaster.specs.KeptOut.{Rising}
 use Rattle.oldmaster.specs.Change.{Row, rowAt, eventsAt, serviceOf, lastOf, mastersId, Follows, begins, stays, Sent, an-update, a-write, RowChange, same, learns, sends, shut, takes, handles, Accepts, HistoryChange, kept, accepts, Change}

@@ -10,7 +10,7 @@ use Rattle.rules.specs.Queues.{first}
 use Rattle.rules.specs.Rules.{noRequest, handleWrite}
 use Rattle.rules.specs.Step.{Event, kindOf, step, fresh}
 use Rattle.rules.specs.Run.{run}
-use Rattle.laws.specs.InRange.{All}
+use Rattle.laws.specs.All.{All}
 
 -- ---- a list of steps, from fresh, and the moments of it
 

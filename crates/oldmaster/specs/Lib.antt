@@ -1,3 +1,6 @@
+-- Believed: KeptOut.
+-- Definitions: Change.
+-- Laws: Invariant, Steps, Growing, OldMaster, Mistakes.
 pub mod KeptOut
 pub mod Change
 pub mod Invariant

@@ -19,9 +19,8 @@ use Rattle.rules.specs.Rules.{posted, unposted, vacant, joined, joinRule, hands
 use Rattle.rules.specs.Step.{Event, kindOf, step}
 use Rattle.laws.specs.InRange.{Within, InRange}
 use Rattle.laws.specs.Tests.{_&_, as-is, is-le, is-lt, is-eq, is-within}
-use Rattle.laws.specs.Decide.{Passes}
+use Rattle.laws.specs.Answered.{Passes, sees, after, Reaches}
 use Rattle.laws.specs.RangeTest.{range-sound}
-use Rattle.laws.specs.Answered.{sees, after, Reaches}
 use Rattle.laws.specs.Answers.{step-is}
 use Rattle.oldmaster.specs.Change as Change
 use Rattle.oldmaster.specs.Change.{Row, rowAt, eventsAt, serviceOf, mastersId, Follows, begins, stays, Sent, RowChange, same, HistoryChange, kept, Change}

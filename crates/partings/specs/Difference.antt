@@ -5,12 +5,17 @@ use Prim.Native.Nat.{ℕ, suc, _+_}
 use lib.Dec.{eqb}
 use lib.ListN.{length, getD}
 use Rattle.rules.specs.State.{Write}
-use Rattle.seqs.specs.Tables.{table}
+use Rattle.seqs.specs.Arrays.{table}
 use Rattle.lists.specs.Entries.{entryAt, noWrite}
+use Rattle.runner.specs.Ran.{wholeRun}
 use Rattle.partings.specs.declared.Entry.{Entry}
 use Rattle.partings.specs.declared.Parting.{Parting}
 
 -- ---- histories
+
+-- The accepted writes of a run.
+abbrev pub history : List ℕ → List Write
+history list = wholeRun list .state .history
 
 abbrev pub sameWrite : Write → Write → Bool
 sameWrite w v = eqb (w .node) (v .node) && eqb (w .term) (v .term)

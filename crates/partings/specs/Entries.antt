@@ -8,9 +8,11 @@ use native.Mathlib.Decide.{decLt}
 use lib.Dec.{eqb}
 use lib.ListN.{length, getD, List·getD-eq-default}
 use Rattle.rules.specs.State.{Write}
-use Rattle.seqs.specs.Tables.{table, table-get, table-of, table-length}
+use Rattle.seqs.specs.Arrays.{table}
+use Rattle.seqs.specs.Tables.{table-get, table-of, table-length}
 use Rattle.lists.specs.EventList.{historyBytes}
-use Rattle.lists.specs.Entries.{entryAt, noWrite, entry-read}
+use Rattle.lists.specs.Written.{entry-read}
+use Rattle.lists.specs.Entries.{entryAt, noWrite}
 use Rattle.partings.specs.Difference.{sameWrite, oneMore, common, entryOf, agrees, differsAt, difference, entries}
 use Rattle.partings.specs.declared.Entry.{Entry}
 use Rattle.partings.specs.Reads.{writeOf}

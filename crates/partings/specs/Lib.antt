@@ -1,3 +1,6 @@
+-- Believed: Difference.
+-- Definitions: Reads.
+-- Laws: Entries, Runs.
 pub mod Difference
 pub mod Reads
 pub mod Entries

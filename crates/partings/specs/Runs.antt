@@ -6,19 +6,14 @@ use native.Mathlib.Omega.{arith}
 use lib.ListN.{length, drop, length-append}
 use lib.Seq.{drop-at}
 use Rattle.rules.specs.Limits.{historyLength}
-use Rattle.rules.specs.State.{Write}
 use Rattle.lists.specs.EventList.{recordCount, refusal, historyBytes}
 use Rattle.lists.specs.Good.{good}
 use Rattle.lists.specs.Written.{history-length}
 use Rattle.runner.specs.Ran.{noWrites, historyRoom, wholeRun, Ran, ran}
 use Rattle.runner.specs.Refusing.{ran-all}
 use Rattle.runner.specs.Whole.{all-answered, few-writes}
-use Rattle.partings.specs.Difference.{entries}
+use Rattle.partings.specs.Difference.{history, entries}
 use Rattle.partings.specs.Entries.{written}
-
--- The accepted writes of a run.
-abbrev pub history : List ℕ → List Write
-history list = wholeRun list .state .history
 
 -- A run of the list accepted n writes, and left this buffer, whose first `count` bytes are the answers.
 pub record Written (list : List ℕ) (count : ℕ) (after : List ℕ) (n : ℕ) : Type 0 where

@@ -3,8 +3,7 @@ use mathlib.Core.List.{List, []}
 use Prim.Native.Nat.{ℕ}
 use lib.ListN.{length, take}
 use Rattle.rules.specs.State as S
-use Rattle.seqs.specs.Padded.{padded}
-use Rattle.seqs.specs.Queue.{Queue, packed, held}
+use Rattle.seqs.specs.Arrays.{padded, Queue, packed, held}
 use Rattle.parts.specs.declared.Mastership.{Mastership}
 use Rattle.parts.specs.declared.Message.{Message}
 use Rattle.parts.specs.declared.Message.the-variants as M

@@ -1,3 +1,6 @@
+-- Believed: Hold.
+-- Definitions: Queues.
+-- Laws: Ordered, Places.
 pub mod Hold
 pub mod Queues
 pub mod Ordered

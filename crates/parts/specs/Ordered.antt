@@ -9,7 +9,7 @@ use lib.ListN.{length, take}
 use Rattle.rules.specs.Limits.{queueLength}
 use Rattle.rules.specs.Queues.{push, rest}
 use Rattle.rules.specs.State as S
-use Rattle.seqs.specs.Padded.{padded}
+use Rattle.seqs.specs.Arrays.{padded}
 use Rattle.seqs.specs.Queue.{Ordered, ordered-packed, push-held, pop-held}
 use Rattle.parts.specs.Hold.{holdMastership, packMastership, noMastership, asIs, holdMessage, packMessage, holdStatus, packStatus, holdRequest, packRequest, noRequest, holdResponse, packResponse, noResponse, eventsQueue, ofEvents, requestsQueue, ofRequests, responsesQueue, ofResponses, packEvents, holdEvents, packRequests, holdRequests, packResponses, holdResponses}
 use Rattle.parts.specs.Queues.{pushEvent, popEvent, pushRequest, popRequest, pushResponse, popResponse}

@@ -12,10 +12,12 @@ use Rattle.rules.specs.Limits.{mostNodes, topTerm, historyLength}
 use Rattle.rules.specs.State as S
 use Rattle.rules.specs.Queues.{before}
 use Rattle.rules.specs.Range.{all, distinctIds, queueFits, mastershipFits, serviceFits, learnedFits, deskFits, streamFits, wireFits, writeFits, coreFits, inRange}
-use Rattle.laws.specs.InRange.{All, Within}
+use Rattle.laws.specs.All.{All}
+use Rattle.laws.specs.InRange.{Within}
 use Rattle.laws.specs.Tests.{Is, is-map, _&_, as-is, is-unless, is-le, is-eq, is-ne, is-within, is-all, is-each, is-distinct-ids}
 use Rattle.laws.specs.Lists.{all-with}
-use Rattle.seqs.specs.Columns.{column, column-at, length-column}
+use Rattle.seqs.specs.Arrays.{column}
+use Rattle.seqs.specs.Columns.{column-at, length-column}
 use Rattle.parts.specs.Hold.{holdMastership}
 use Rattle.state.specs.Hold.{eventsAt, learnedAt, saysAt, openAt, sentAt, requestsAt, responsesAt, idAt, termAt, noWrite, holdWire, holdDesk, holdCore, holdHistory, hold}
 use Rattle.state.specs.Order.{pastNode, pastStream}

@@ -9,7 +9,8 @@ use native.Mathlib.Decide.{ℕ-discrete}
 use lib.ListN.{length, getD}
 use borrow.Author.Tests.{eq-eqb, ne-eqb}
 use Rattle.rules.specs.Queues.{before}
-use Rattle.laws.specs.InRange.{All, Absent, Distinct, DistinctIds}
+use Rattle.laws.specs.All.{All}
+use Rattle.laws.specs.InRange.{Absent, Distinct, DistinctIds}
 
 -- ---- one element more in front
 

@@ -1,3 +1,5 @@
+-- Definitions: Tests.
+-- Laws: Places, First, Masterships, Queues, Rows, Agree.
 pub mod Tests
 pub mod Places
 pub mod First

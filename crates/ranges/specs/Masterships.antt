@@ -14,7 +14,8 @@ use Rattle.rules.specs.Limits.{topTerm}
 use Rattle.rules.specs.Queues.{empty, before}
 use Rattle.rules.specs.Ids.{placeOf}
 use Rattle.rules.specs.Range.{within, backupFits, mastershipFits, serviceFits, learnedFits}
-use Rattle.laws.specs.InRange.{All, Distinct, Within}
+use Rattle.laws.specs.All.{All}
+use Rattle.laws.specs.InRange.{Distinct, Within}
 use Rattle.laws.specs.Tests.{Is, is-map, _&_, as-is, is-le, is-eq, is-ne, is-within, is-empty, is-all, is-each, is-distinct}
 use Rattle.parts.specs.Hold.{holdMastership}
 use Rattle.parts.specs.declared.Mastership.{Mastership}

@@ -9,7 +9,7 @@ use lib.Dec.{T}
 use lib.ListN.{length, getD, take, drop}
 use borrow.Author.Tests.{lt-ltb, le-ltb}
 use Rattle.rules.specs.Range.{all, each}
-use Rattle.laws.specs.InRange.{All}
+use Rattle.laws.specs.All.{All}
 use Rattle.laws.specs.Tests.{Is, is-map, _&_, as-is, is-le, is-each}
 use Rattle.laws.specs.Lists.{all-with}
 use Rattle.bridge.specs.Rows.{all-take, all-drop, taken-at, dropped-at}

@@ -11,7 +11,7 @@ use borrow.Author.Tests.{eq-eqb, ne-eqb}
 use Rattle.rules.specs.State as S
 use Rattle.rules.specs.Queues.{empty}
 use Rattle.rules.specs.Range.{all, mastershipFits, requestFits, responseFits, writeFits}
-use Rattle.laws.specs.InRange.{All}
+use Rattle.laws.specs.All.{All}
 use Rattle.laws.specs.Tests.{Is, is-map, _&_, as-is, is-le, is-eq, is-all}
 use Rattle.laws.specs.Lists.{all-with}
 use Rattle.parts.specs.Hold.{holdMastership, holdRequest, holdResponse}

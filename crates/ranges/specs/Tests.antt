@@ -7,7 +7,7 @@ use lib.ListN.{getD}
 use Rattle.rules.specs.Limits.{mostNodes, topTerm, topId, historyLength}
 use Rattle.rules.specs.Queues.{before}
 use Rattle.rules.specs.Range.{each, within, writeFits}
-use Rattle.seqs.specs.Columns.{column}
+use Rattle.seqs.specs.Arrays.{column}
 use Rattle.state.specs.Hold.{idAt, holdWrite, noWrite}
 use Rattle.state.specs.Order.{pastNode, pastStream}
 use Rattle.state.specs.Tidy.{isZero, blankWrite}

@@ -4,7 +4,7 @@ ghost use mathlib.Core.Bool.{cond, false};
 ghost use Prim.Native.Nat.{_≤_};
 ghost use Rattle.rules.specs.Limits.{mostNodes};
 ghost use Rattle.rules.specs.Queues.{before};
-ghost use Rattle.seqs.specs.Columns.{column};
+ghost use Rattle.seqs.specs.Arrays.{column};
 ghost use Rattle.state.specs.Hold.{idAt};
 ghost use Rattle.state.specs.Tidy.{blankWrite};
 ghost use Rattle.ranges.specs.Tests.{nodeTest, blankNodeTest, nodesTest, shutTest, queuesTest, streamTest, streamsTest, idTest, idsTest, writeTest, historyTest};

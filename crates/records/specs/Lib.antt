@@ -1,2 +1,4 @@
+-- Believed: Rows.
+-- Laws: Times.
 pub mod Rows
 pub mod Times

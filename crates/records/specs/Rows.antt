@@ -3,7 +3,7 @@ use mathlib.Core.List.{List, map}
 use Prim.Native.Nat.{ℕ, _+_, _*_}
 use lib.ListN.{getD}
 use Rattle.rules.specs.Step.{Event}
-use Rattle.seqs.specs.Tables.{table}
+use Rattle.seqs.specs.Arrays.{table}
 use Rattle.logtext.specs.Log.{Row}
 
 -- Where there is no record.

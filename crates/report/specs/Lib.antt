@@ -1,3 +1,5 @@
+-- Believed: Words, Report.
+-- Laws: Says, Runs.
 pub mod Words
 pub mod Report
 pub mod Says

@@ -8,8 +8,7 @@ use Rattle.lists.specs.EventList.{nodeCount, refusal}
 use Rattle.comparing.specs.declared.Finding.{Finding}
 use Rattle.comparing.specs.Compared.{comparison}
 use Rattle.partings.specs.declared.Parting.{Parting}
-use Rattle.partings.specs.Difference.{difference}
-use Rattle.partings.specs.Runs.{history}
+use Rattle.partings.specs.Difference.{difference, history}
 use Rattle.text.specs.Line.{line}
 use Rattle.report.specs.Words as W
 

@@ -6,10 +6,10 @@ use lib.ListN.{drop}
 use Rattle.text.specs.Put.{Put}
 use Rattle.text.specs.Puts.{put-then}
 use Rattle.partings.specs.declared.Parting.{Parting}
-use Rattle.partings.specs.Difference.{difference, entries}
+use Rattle.partings.specs.Difference.{difference, entries, history}
 use Rattle.text.specs.Line.{line}
 use Rattle.report.specs.Words as W
-use Rattle.partings.specs.Runs.{history, Written}
+use Rattle.partings.specs.Runs.{Written}
 use Rattle.report.specs.Report.{partingLine, runsText}
 use Rattle.report.specs.Says.{put-as}
 

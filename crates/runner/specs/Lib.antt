@@ -1,3 +1,5 @@
+-- Believed: Ran.
+-- Laws: Refusing, Tables, Advances, Running, Turning, Whole.
 pub mod Ran
 pub mod Refusing
 pub mod Tables

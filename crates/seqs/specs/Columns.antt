@@ -1,42 +1,39 @@
--- A column: one thing of each of the first rows of an array. How it grows by a row, and what a store to a row does to it. Assumes nothing.
+-- Laws of a column: how it grows by a row, and what a store to a row does to it. Assumes nothing.
 use mathlib.Core.Path.{_≡_, refl, ap, _∙_}
-use mathlib.Core.List.{List, [], _∷_, map}
+use mathlib.Core.List.{List, [], _∷_}
 use Prim.Native.Nat.{ℕ, zero, suc, _+_, _-_, _<_, _≤_}
 use native.Mathlib.Nat.{le-of-suc-le-suc}
 use native.Mathlib.Numerals.{add-one}
 use native.Mathlib.Omega.{arith}
-use lib.ListN.{length, getD, set, take, drop, drop-of-length-le}
+use lib.ListN.{length, getD, set, drop, drop-of-length-le}
 use lib.Seq.{drop-cons}
 use Rattle.rules.specs.Queues.{push}
+use Rattle.seqs.specs.Arrays.{column}
 
 module _ {A B : Type 0} (f : A → B) where
-  -- f of each of the first n rows
-  abbrev pub column : ℕ → List A → List B
-  column n l = map f (take n l)
-
-  pub length-column : (n : ℕ) (l : List A) → n ≤ length l → length (column n l) ≡ n
+  pub length-column : (n : ℕ) (l : List A) → n ≤ length l → length (column f n l) ≡ n
   length-column zero l h = refl
   length-column (suc n) [] h = absurd (omega arith)
   length-column (suc n) (x ∷ l) h = ap suc (length-column n l (le-of-suc-le-suc h))
 
-  more : (n : ℕ) (l : List A) (d : A) → n < length l → column (suc n) l ≡ push (f (getD l n d)) (column n l)
+  more : (n : ℕ) (l : List A) (d : A) → n < length l → column f (suc n) l ≡ push (f (getD l n d)) (column f n l)
   unfolding push
   more n [] d h = absurd (omega arith)
   more zero (x ∷ l) d h = refl
   more (suc n) (x ∷ l) d h = ap (λ (t : List B). f x ∷ t) (more n l d (le-of-suc-le-suc h))
 
   -- one row more is pushed
-  pub column-more : (n : ℕ) (l : List A) (d : A) → n < length l → column (n + 1) l ≡ push (f (getD l n d)) (column n l)
+  pub column-more : (n : ℕ) (l : List A) (d : A) → n < length l → column f (n + 1) l ≡ push (f (getD l n d)) (column f n l)
   column-more n l d h = rw (add-one n) (more n l d h)
 
   -- a row of a column; past its end what is asked for there
-  pub column-at : (n i : ℕ) (l : List A) (d : A) → i < n → getD (column n l) i (f d) ≡ f (getD l i d)
+  pub column-at : (n i : ℕ) (l : List A) (d : A) → i < n → getD (column f n l) i (f d) ≡ f (getD l i d)
   column-at zero i l d h = absurd (omega arith)
   column-at (suc n) i [] d h = refl
   column-at (suc n) zero (x ∷ l) d h = refl
   column-at (suc n) (suc i) (x ∷ l) d h = column-at n i l d (le-of-suc-le-suc h)
 
-  pub column-set : (n i : ℕ) (l : List A) (x : A) → column n (set l i x) ≡ set (column n l) i (f x)
+  pub column-set : (n i : ℕ) (l : List A) (x : A) → column f n (set l i x) ≡ set (column f n l) i (f x)
   column-set zero i l x = refl
   column-set (suc n) i [] x = refl
   column-set (suc n) zero (y ∷ l) x = refl

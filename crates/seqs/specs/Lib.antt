@@ -1,3 +1,6 @@
+-- Believed: Arrays.
+-- Laws: Tests, Columns, Tables, Padded, Queue, Rows, Search.
+pub mod Arrays
 pub mod Tests
 pub mod Columns
 pub mod Tables

@@ -1,20 +1,17 @@
--- Any queue: its places, those in use first, and how many are in use. Stated once, over the element type. Assumes nothing.
+-- Putting into any queue and taking off it, and what it then holds. Stated once, over the element type. Assumes nothing.
 use mathlib.Core.Path.{_≡_, refl, sym, ap, _∙_}
 use mathlib.Core.Bool.{Bool, true, false, not, cond}
-use mathlib.Core.List.{List, [], _∷_, _++_, map}
+use mathlib.Core.List.{List, [], _∷_, _++_}
 use Prim.Native.Nat.{ℕ, suc, _+_, _-_, _≤_, _<_}
 use native.Mathlib.Omega.{arith}
 use native.Mathlib.Decide.{decLt}
 use lib.Dec.{leb, ltb, eqb, eqb·suc-zero, ltb→lt}
-use lib.ListN.{length, getD, set, take, drop, length-append}
+use lib.ListN.{length, getD, set, drop, length-append}
 use borrow.Author.Tests.{lt-ltb, le-ltb, le-leb, lt-leb}
 use Rattle.rules.specs.Limits.{queueLength}
 use Rattle.rules.specs.Queues.{push, rest, room, first, empty}
-use Rattle.seqs.specs.Padded.{padded, padded-push, padded-pop, held-padded}
-
-pub record Queue (B : Type 0) : Type 0 where
-  pub items : List B
-  pub len : ℕ
+use Rattle.seqs.specs.Arrays.{Queue, packed, held}
+use Rattle.seqs.specs.Padded.{padded-push, padded-pop, held-padded}
 
 module _ {B : Type 0} where
   abbrev pub full : Queue B → Bool
@@ -29,13 +26,6 @@ module _ {B : Type 0} where
   popped blank q = cond (eqb (q .len) 0) q (record { items = drop 1 (q .items) ++ (blank ∷ []); len = q .len - 1 })
 
 -- ---- a queue that holds a list of the specification: `rep` writes an element, `hold` reads it
-
--- the list at the front, and blanks behind it
-abbrev pub packed : {A B : Type 0} → B → (A → B) → List A → Queue B
-packed blank rep l = record { items = padded blank rep queueLength l; len = length l }
-
-abbrev pub held : {A B : Type 0} → (B → A) → Queue B → List A
-held hold q = map hold (take (q .len) (q .items))
 
 -- the queue is what it holds with blanks behind it, and holds no more than it may
 pub record Ordered {A B : Type 0} (blank : B) (rep : A → B) (hold : B → A) (q : Queue B) : Type 0 where

@@ -1,4 +1,4 @@
--- An array of rows, given by the row at each place. Assumes nothing.
+-- Laws of an array that is given by the row at each place. Assumes nothing.
 use mathlib.Core.Path.{_≡_, refl, sym, ap, _∙_}
 use mathlib.Core.Logic.{_≢_}
 use mathlib.Core.List.{List, [], _∷_, _++_}
@@ -7,14 +7,9 @@ use native.Mathlib.Nat.{le-of-suc-le-suc}
 use native.Mathlib.Omega.{arith}
 use lib.ListN.{length, getD, set, drop}
 use lib.Seq.{ext-getD}
-use Rattle.seqs.specs.Columns.{column}
+use Rattle.seqs.specs.Arrays.{column, table}
 
 module _ {R : Type 0} where
-  -- `size` rows, f i at place i
-  abbrev pub table : ℕ → (ℕ → R) → List R
-  table zero f = []
-  table (suc size) f = f 0 ∷ table size (λ i. f (suc i))
-
   pub table-length : (size : ℕ) (f : ℕ → R) → length (table size f) ≡ size
   table-length zero f = refl
   table-length (suc size) f = ap suc (table-length size (λ i. f (suc i)))

@@ -1,3 +1,5 @@
+-- Definitions: Asks.
+-- Laws: Rules, Removal, Posting, Masterships.
 pub mod Asks
 pub mod Rules
 pub mod Removal

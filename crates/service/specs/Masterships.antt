@@ -12,7 +12,8 @@ use Rattle.rules.specs.State as S
 use Rattle.rules.specs.Queues.{push, first, rest, empty, has}
 use Rattle.rules.specs.Ids.{named}
 use Rattle.rules.specs.Rules.{vacant, joined, left, handsOver}
-use Rattle.seqs.specs.Padded.{padded, padded-push, padded-pop}
+use Rattle.seqs.specs.Arrays.{padded}
+use Rattle.seqs.specs.Padded.{padded-push, padded-pop}
 use Rattle.parts.specs.Hold.{holdMastership, packMastership, asIs}
 use Rattle.parts.specs.Ordered.{OrderedMastership}
 use Rattle.parts.specs.declared.Mastership.{Mastership}

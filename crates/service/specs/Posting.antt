@@ -11,7 +11,8 @@ use lib.ListN.{length, getD, length-map, List·getD-eq-default}
 use Rattle.rules.specs.Limits.{queueLength, mostNodes}
 use Rattle.rules.specs.State as S
 use Rattle.rules.specs.Queues.{push, room, roomAll}
-use Rattle.seqs.specs.Columns.{column, length-column, column-at}
+use Rattle.seqs.specs.Arrays.{column}
+use Rattle.seqs.specs.Columns.{length-column, column-at}
 use Rattle.seqs.specs.Tables.{table-length, table-get, table-of}
 use Rattle.seqs.specs.Rows.{mapFirst, mapFirst-length, mapFirst-in, mapFirst-out}
 use Rattle.seqs.specs.Queue.{room-held}

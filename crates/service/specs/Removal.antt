@@ -11,7 +11,8 @@ use lib.ListN.{length, getD, set, take}
 use lib.Seq.{length-take-le, take-suc}
 use borrow.Author.Tests.{eq-eqb, ne-eqb, lt-ltb, le-ltb}
 use Rattle.rules.specs.Queues.{push, has, remove, before}
-use Rattle.seqs.specs.Padded.{padded, padded-push}
+use Rattle.seqs.specs.Arrays.{padded}
+use Rattle.seqs.specs.Padded.{padded-push}
 use Rattle.parts.specs.Hold.{asIs}
 use Rattle.service.specs.Asks.{skipping}
 

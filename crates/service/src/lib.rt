@@ -8,7 +8,7 @@ ghost use Rattle.rules.specs.Limits.{mostNodes};
 ghost use Rattle.rules.specs.Queues.{push, roomAll};
 ghost use Rattle.rules.specs.Part.{decide};
 ghost use Rattle.rules.specs.Rules.{joinRule, leaveRule, joined, left, handsOver};
-ghost use Rattle.seqs.specs.Columns.{column};
+ghost use Rattle.seqs.specs.Arrays.{column};
 ghost use Rattle.parts.specs.Hold.{holdMastership, packMastership};
 ghost use Rattle.parts.specs.Ordered.{OrderedMastership};
 ghost use Rattle.state.specs.Hold.{eventsAt, holdDesk};

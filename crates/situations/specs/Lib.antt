@@ -1,3 +1,5 @@
+-- Definitions: Names, Scope, Fresh, Alone, Told.
+-- Laws: Equal, Situation, Table.
 pub mod Names
 pub mod Equal
 pub mod Situation

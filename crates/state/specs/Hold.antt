@@ -5,9 +5,7 @@ use Prim.Native.Nat.{ℕ}
 use lib.ListN.{length, getD}
 use Rattle.rules.specs.Limits.{mostNodes, historyLength}
 use Rattle.rules.specs.State as S
-use Rattle.seqs.specs.Columns.{column}
-use Rattle.seqs.specs.Tables.{table}
-use Rattle.seqs.specs.Padded.{padded}
+use Rattle.seqs.specs.Arrays.{column, table, padded}
 use Rattle.parts.specs.declared.Mastership.{Mastership}
 use Rattle.parts.specs.declared.ElectionId.{ElectionId}
 use Rattle.parts.specs.declared.Term.{Term}

@@ -1,3 +1,6 @@
+-- Believed: Hold, Tidy.
+-- Definitions: Order, Reads, Stores.
+-- Laws: Blank.
 pub mod Hold
 pub mod Tidy
 pub mod Order

@@ -5,7 +5,7 @@ use mathlib.Core.List.{List, []}
 use Prim.Native.Nat.{ℕ, _≤_, _<_}
 use lib.ListN.{getD}
 use Rattle.rules.specs.Limits.{mostNodes}
-use Rattle.seqs.specs.Columns.{column}
+use Rattle.seqs.specs.Arrays.{column}
 use Rattle.parts.specs.Hold.{pastMastership}
 use Rattle.parts.specs.Ordered.{OrderedMastership, OrderedEvents, OrderedRequests, OrderedResponses}
 use Rattle.state.specs.Hold.{eventsAt, learnedAt, saysAt, holdWire, packNodes, packStreams, packClaims}

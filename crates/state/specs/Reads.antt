@@ -5,7 +5,7 @@ use Prim.Native.Nat.{ℕ, _-_}
 use lib.ListN.{getD}
 use Rattle.rules.specs.Part.{Out, refuse, done}
 use Rattle.rules.specs.Parts.{Inbox, Sender, Receiver, Linked, Told, Served, Power}
-use Rattle.seqs.specs.Columns.{column}
+use Rattle.seqs.specs.Arrays.{column}
 use Rattle.parts.specs.Hold.{holdMastership, holdEvents, holdRequests, holdResponses}
 use Rattle.state.specs.Hold.{holdWire, idAt, termAt}
 use Rattle.state.specs.declared.Node.{Node}

@@ -4,7 +4,7 @@ use mathlib.Core.List.{List, []}
 use Prim.Native.Nat.{ℕ}
 use Rattle.rules.specs.State as S
 use Rattle.rules.specs.Parts.{Inbox, Sent, Received, Telling, Serving, tellPart}
-use Rattle.seqs.specs.Columns.{column}
+use Rattle.seqs.specs.Arrays.{column}
 use Rattle.parts.specs.Hold.{packMastership, packEvents, packRequests, packResponses}
 use Rattle.state.specs.Hold.{learnedAt, saysAt, holdWire, packNodes, packStreams, packClaims}
 use Rattle.state.specs.declared.Node.{Node}

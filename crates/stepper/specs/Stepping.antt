@@ -14,7 +14,7 @@ use Rattle.rules.specs.Step.{Event, kindOf, ofKind, ofState, step}
 use Rattle.rules.specs.Open.{openReport, wordOf, countOf}
 use Rattle.laws.specs.RangeTest.{range-sound, range-complete}
 use Rattle.laws.specs.Steps.{step-keeps}
-use Rattle.seqs.specs.Columns.{column}
+use Rattle.seqs.specs.Arrays.{column}
 use Rattle.state.specs.Hold.{openAt, packHistory, packCore, holdHistory, holdCore, holdWire, hold, represent}
 use Rattle.state.specs.Tidy.{tidyCore, tidyHistory, stateFits}
 use Rattle.state.specs.declared.State.{State}

@@ -14,8 +14,8 @@ use Rattle.rules.specs.Part.{decide}
 use Rattle.rules.specs.Parts.{Told}
 use Rattle.rules.specs.Election.{roomOpen}
 use Rattle.rules.specs.Rules.{changes, idsLeft, opensLeft, responsesLeft, closeRoom, closed, closeRule}
-use Rattle.seqs.specs.Columns.{column, column-at, column-set}
-use Rattle.seqs.specs.Tables.{table}
+use Rattle.seqs.specs.Arrays.{column, table}
+use Rattle.seqs.specs.Columns.{column-at, column-set}
 use Rattle.parts.specs.Ordered.{ordered-requests, ordered-responses}
 use Rattle.parts.specs.declared.ElectionId.{ElectionId}
 use Rattle.state.specs.Hold.{holdWire, packStreams, packClaims, openAt, responsesAt, idAt}

@@ -13,7 +13,8 @@ use Rattle.rules.specs.State as S
 use Rattle.rules.specs.Queues.{push, room}
 use Rattle.rules.specs.Election.{news, tellFrom, tellAll, roomOpen}
 use Rattle.seqs.specs.Padded.{held-padded}
-use Rattle.seqs.specs.Tables.{table, table-of, table-get, table-length}
+use Rattle.seqs.specs.Arrays.{table}
+use Rattle.seqs.specs.Tables.{table-of, table-get, table-length}
 use Rattle.parts.specs.Hold.{holdResponse, packResponse, noResponse, packResponses}
 use Rattle.parts.specs.Ordered.{ordered-responses, push-responses, response-back}
 use Rattle.parts.specs.Queues.{pushResponse}

@@ -15,9 +15,9 @@ use Rattle.rules.specs.Part.{decide}
 use Rattle.rules.specs.Parts.{Told, Telling}
 use Rattle.rules.specs.Election.{taken, news, roomOpen, tellAll}
 use Rattle.rules.specs.Rules.{noRequest, isUpdate, changes, asked, idsLeft, opensLeft, responsesLeft, idsWith, closeRoom, closed, closeRule, updateRoom, updated, handleUpdateRule}
-use Rattle.seqs.specs.Columns.{column, column-at, column-set}
+use Rattle.seqs.specs.Arrays.{column, table}
+use Rattle.seqs.specs.Columns.{column-at, column-set}
 use Rattle.seqs.specs.Queue.{room-held}
-use Rattle.seqs.specs.Tables.{table}
 use Rattle.parts.specs.Hold.{holdRequests, holdResponses, packRequest, packRequests, packResponse, holdResponse, noResponse, responsesQueue}
 use Rattle.parts.specs.Ordered.{pop-requests}
 use Rattle.parts.specs.declared.ElectionId.{ElectionId}

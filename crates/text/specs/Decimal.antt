@@ -1,6 +1,6 @@
--- A number as text: its decimal digits.
+-- A number as text: its decimal digits, and what digits say.
 use mathlib.Core.List.{List, [], _∷_, _++_}
-use Prim.Native.Nat.{ℕ, zero, suc, _+_, _/_, _%_}
+use Prim.Native.Nat.{ℕ, zero, suc, _+_, _*_, _-_, _/_, _%_}
 
 -- The byte of one digit: 48 is "0".
 abbrev pub digit : ℕ → ℕ
@@ -15,3 +15,8 @@ digits (suc most) (suc n) = digits most (suc n / 10) ++ (digit (suc n % 10) ∷ 
 -- The last digit is always written, so 0 is "0"; those before it begin with no zero.
 unfoldable pub decimal : ℕ → List ℕ
 decimal n = digits n (n / 10) ++ (digit (n % 10) ∷ [])
+
+-- The number that digits say, behind those that say `before`.
+abbrev pub saidAfter : ℕ → List ℕ → ℕ
+saidAfter before [] = before
+saidAfter before (b ∷ l) = saidAfter (10 * before + (b - digit 0)) l

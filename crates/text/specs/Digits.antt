@@ -8,7 +8,7 @@ use native.Mathlib.Omega.{arith}
 use lib.Dec.{leb}
 use lib.ListN.{length, getD, length-append, List·getD-append}
 use borrow.Author.Tests.{leb-true, leb-false}
-use Rattle.text.specs.Decimal.{digit, digits, decimal}
+use Rattle.text.specs.Decimal.{digit, digits, decimal, saidAfter}
 
 -- ---- the last digit, and those before it
 
@@ -79,11 +79,6 @@ no-leading-zero = by-digits (λ n. 0 < n → digit 0 < getD (decimal n) 0 0)
     (λ n h r p. rw (decimal-more n h, List·getD-append (decimal (n / 10)) (digit (n % 10) ∷ []) 0 0 (some-digit (n / 10))) (r (omega arith)))
 
 -- ---- they say the number
-
--- The number that digits say, behind those that say `before`.
-abbrev pub saidAfter : ℕ → List ℕ → ℕ
-saidAfter before [] = before
-saidAfter before (b ∷ l) = saidAfter (10 * before + (b - digit 0)) l
 
 said-then : (before : ℕ) (l : List ℕ) (d : ℕ) → saidAfter before (l ++ (digit d ∷ [])) ≡ 10 * saidAfter before l + d
 said-then before [] d = omega arith

@@ -1,3 +1,5 @@
+-- Believed: Decimal, Lines, Put, Line.
+-- Laws: Digits, Widths, Puts, Spacing, Sample.
 pub mod Decimal
 pub mod Lines
 pub mod Put

@@ -1,3 +1,6 @@
+-- Believed: Transcript.
+-- Definitions: Bytes.
+-- Laws: Lines, Reading, Filled, Sample.
 pub mod Transcript
 pub mod Bytes
 pub mod Lines

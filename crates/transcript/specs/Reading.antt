@@ -8,7 +8,7 @@ use lib.Seq.{drop-at}
 use Rattle.rules.specs.State.{Write}
 use Rattle.lists.specs.EventList.{recordCount, historyBytes}
 use Rattle.text.specs.Lines.{writesLine}
-use Rattle.lists.specs.Entries.{entry-read}
+use Rattle.lists.specs.Written.{entry-read}
 use Rattle.transcript.specs.Transcript.{recordLineAt, lineOf, runText}
 use Rattle.transcript.specs.Bytes.{bytesText}
 use Rattle.transcript.specs.Lines.{lines-same}

@@ -10,7 +10,7 @@ use Rattle.rules.specs.Queues.{push, roomAll}
 use Rattle.rules.specs.Range.{within}
 use Rattle.rules.specs.Rules as R
 use Rattle.rules.specs.Step.{kindOf, ofKind}
-use Rattle.seqs.specs.Columns.{column}
+use Rattle.seqs.specs.Arrays.{column}
 use Rattle.parts.specs.Hold.{holdMastership}
 use Rattle.parts.specs.Ordered.{OrderedMastership}
 use Rattle.parts.specs.declared.Mastership.{Mastership}

@@ -1,3 +1,5 @@
+-- Definitions: Turns, Asks.
+-- Laws: Answers, At, Nodes, Service, Switch, Called, RowTurns, DeskTurns, WireTurns.
 pub mod Turns
 pub mod Asks
 pub mod Answers

@@ -17,8 +17,9 @@ use Rattle.rules.specs.Rules as R
 use Rattle.rules.specs.Step.{act}
 use Rattle.laws.specs.InRange.{AnswerFits, ResponseFits}
 use Rattle.laws.specs.Lists.{queue-first}
-use Rattle.laws.specs.Decide.{Passes}
-use Rattle.seqs.specs.Columns.{column, column-at}
+use Rattle.laws.specs.Answered.{Passes}
+use Rattle.seqs.specs.Arrays.{column}
+use Rattle.seqs.specs.Columns.{column-at}
 use Rattle.parts.specs.Hold.{holdResponses}
 use Rattle.state.specs.Hold.{responsesAt, holdCore, holdWire}
 use Rattle.state.specs.Order.{OrderedNode, OrderedStream, pastNode, pastStream}

@@ -16,9 +16,9 @@ use Rattle.rules.specs.Parts.{servicePart}
 use Rattle.rules.specs.Rules.{joinRule, leaveRule, joined, left, vacant, handsOver, posted, unposted}
 use Rattle.laws.specs.InRange.{DeskFits, ServiceFits, masterless, ruled}
 use Rattle.laws.specs.KeepsService.{join-fits, leave-fits}
-use Rattle.laws.specs.Decide.{Passes}
+use Rattle.laws.specs.Answered.{Passes}
 use Rattle.laws.specs.Tests.{is-yes}
-use Rattle.seqs.specs.Columns.{column}
+use Rattle.seqs.specs.Arrays.{column}
 use Rattle.parts.specs.Hold.{holdMastership, packMastership}
 use Rattle.parts.specs.Ordered.{OrderedMastership, ordered-mastership, mastership-back}
 use Rattle.parts.specs.declared.Mastership.{Mastership}

@@ -10,7 +10,7 @@ use Rattle.rules.specs.Part.{Rule, via, decide}
 use Rattle.rules.specs.Parts.{Linked, Told, Telling, Served, Serving, Power, linkPart, tellPart, servePart, powerPart, onDevice}
 use Rattle.rules.specs.Rules.{shutdown, startup, shutdownRule, startupRule, cleared}
 use Rattle.rules.specs.Step.{act}
-use Rattle.laws.specs.Decide.{Passes}
+use Rattle.laws.specs.Answered.{Passes}
 use Rattle.state.specs.Hold.{holdCore, holdWire}
 use Rattle.state.specs.Reads.{answerOf, linkedOf, toldOf, servedOf, powerOf}
 use Rattle.state.specs.Stores.{storeOpen, storeTelling, storeServing, packWire}

@@ -8,7 +8,7 @@ use lib.Dec.{T, leb, eqb}
 use Rattle.rules.specs.State.{State}
 use Rattle.rules.specs.Range.{inRange}
 use Rattle.rules.specs.Step.{Event}
-use Rattle.laws.specs.InRange.{All}
+use Rattle.laws.specs.All.{All}
 use Rattle.merges.specs.Independent.{independent}
 use Rattle.verdict.specs.Verdict.{Same}
 use Rattle.verdict.specs.Pairs.{only}

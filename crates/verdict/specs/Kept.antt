@@ -5,7 +5,7 @@ use mathlib.Core.List.{List, [], _∷_}
 use Prim.Native.Nat.{ℕ}
 use native.Mathlib.Omega.{arith}
 use lib.Dec.{T}
-use Rattle.laws.specs.InRange.{All}
+use Rattle.laws.specs.All.{All}
 use Rattle.verdict.specs.Pairs.{kept, only}
 
 pub not-nil : {A B : Type 0} {x : A} {l : List A} → [] ≡ x ∷ l → B

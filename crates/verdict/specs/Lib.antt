@@ -1,3 +1,5 @@
+-- Believed: Verdict, Pairs, Clocks, Own.
+-- Laws: Steps, Chains, Exact, Kept, Projections, Merging, Owned.
 pub mod Verdict
 pub mod Pairs
 pub mod Clocks

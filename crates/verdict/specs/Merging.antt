@@ -7,7 +7,7 @@ use mathlib.Core.List.{List, [], _∷_}
 use Prim.Native.Nat.{ℕ}
 use lib.Dec.{T, eqb, eqb→eq}
 use borrow.Author.Tests.{eq-eqb}
-use Rattle.laws.specs.InRange.{All}
+use Rattle.laws.specs.All.{All}
 use Rattle.laws.specs.Lists.{all-each}
 use Rattle.merges.specs.Independent.{independent}
 use Rattle.verdict.specs.Verdict.{Exchanges, Independent}

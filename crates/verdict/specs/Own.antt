@@ -8,7 +8,7 @@ use Rattle.rules.specs.State.{State}
 use Rattle.rules.specs.Queues.{has}
 use Rattle.rules.specs.Range.{within, inRange}
 use Rattle.rules.specs.Step.{Event}
-use Rattle.laws.specs.InRange.{All}
+use Rattle.laws.specs.All.{All}
 use Rattle.merges.specs.Independent.{nodeKinds, independent}
 use Rattle.verdict.specs.Verdict.{Same}
 use Rattle.verdict.specs.Clocks.{Logged, events, SameLogs}

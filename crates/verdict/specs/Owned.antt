@@ -7,7 +7,7 @@ use lib.Dec.{T, eqb, eqb→eq}
 use Rattle.rules.specs.Queues.{has}
 use Rattle.rules.specs.Range.{within}
 use Rattle.rules.specs.Step.{Event, kindOf}
-use Rattle.laws.specs.InRange.{All}
+use Rattle.laws.specs.All.{All}
 use Rattle.laws.specs.Tests.{_&_, as-is, is-ne}
 use Rattle.merges.specs.Independent.{nodeKinds, otherNodes, lines, names, calls, listed, exists, independent}
 use Rattle.merges.specs.Listed.{either}

@@ -1,4 +1,5 @@
 -- What the program prints for the text of a merged log.
+use mathlib.Core.Path.{_≡_}
 use mathlib.Core.Bool.{true, false, cond}
 use mathlib.Core.List.{List, [], _∷_, _++_}
 use Prim.Native.Nat.{ℕ, zero, suc}
@@ -53,3 +54,8 @@ readingText r = cond (eqb (r .refused) 0) (logText (r .nodes) (r .bound) (r .row
 
 unfoldable pub answer : List ℕ → List ℕ
 answer text = cond (leb (length text) longestText) (readingText (readText text)) (line W.refusedLong [])
+
+-- The text is not refused, and nothing in it is in doubt.
+pub record Certain (text : List ℕ) : Type 0 where
+  pub good : readText text .refused ≡ 0
+  pub none : doubts (readText text .nodes) (readText text .bound) (readText text .rows) ≡ []

@@ -1,3 +1,5 @@
+-- Believed: Words, Answer.
+-- Laws: Showing, Rows, Promise.
 pub mod Words
 pub mod Answer
 pub mod Showing

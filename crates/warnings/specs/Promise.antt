@@ -17,10 +17,10 @@ use Rattle.report.specs.Words as R
 use Rattle.logtext.specs.Log.{longestText, Row, readText}
 use Rattle.logtext.specs.Known.{few-nodes, good-nodes}
 use Rattle.doubts.specs.declared.Pair.{Pair}
-use Rattle.doubts.specs.Doubts.{doubts}
-use Rattle.doubts.specs.Nothing.{merged, no-doubt}
+use Rattle.doubts.specs.Doubts.{doubts, merged}
+use Rattle.doubts.specs.Nothing.{no-doubt}
 use Rattle.warnings.specs.Words as W
-use Rattle.warnings.specs.Answer.{pairText, shown, doubtsText, logText, answer}
+use Rattle.warnings.specs.Answer.{pairText, shown, doubtsText, logText, answer, Certain}
 
 -- ---- "same" is said nowhere else
 
@@ -32,11 +32,7 @@ said-same count bound rows e = go (doubts count bound rows) e
     go [] e = refl
     go (p ∷ ps) e = absurd (let z : _≡_ {A = ℕ} 100 115 = cc in omega arith)
 
--- A text for which "same" is printed was not refused, and nothing in it is in doubt.
-pub record Certain (text : List ℕ) : Type 0 where
-  pub good : readText text .refused ≡ 0
-  pub none : doubts (readText text .nodes) (readText text .bound) (readText text .rows) ≡ []
-
+-- A text for which "same" is printed is certain.
 pub certain : (text : List ℕ) → answer text ≡ line R.same [] → Certain text
 unfolding answer line
 certain text e = go (leb (length text) longestText) (eqb (readText text .refused) 0) refl e

@@ -16,7 +16,7 @@ use Rattle.logtext.specs.Reads.{rowRoom}
 use Rattle.logtext.specs.declared.Log.{Log}
 use Rattle.records.specs.Rows.{noRow, rowIn, rowsIn, stepsOf}
 use Rattle.exchanges.specs.Bytes.{Small}
-use Rattle.laws.specs.InRange.{All}
+use Rattle.laws.specs.All.{All}
 use Rattle.warnings.specs.Words as W
 use Rattle.warnings.specs.Answer.{logText, answer}
 

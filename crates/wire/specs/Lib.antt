@@ -1,3 +1,6 @@
+-- Believed: Numbers, Fields, Messages.
+-- Definitions: Places.
+-- Laws: Groups, Joining, Readers, Found, Folding, Walking, Sample.
 pub mod Numbers
 pub mod Fields
 pub mod Messages

@@ -8,7 +8,8 @@ use native.Mathlib.Decide.{ℕ-discrete}
 use lib.ListN.{length, getD, set, length-set}
 use lib.Seq.{getD-set-same, getD-set-other}
 use Rattle.rules.specs.Open.{wordOf}
-use Rattle.seqs.specs.Tables.{table, table-of}
+use Rattle.seqs.specs.Arrays.{table}
+use Rattle.seqs.specs.Tables.{table-of}
 use Rattle.words.specs.Flags.{none-set}
 
 -- a flag that is true after one was cleared was true before

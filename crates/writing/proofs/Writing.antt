@@ -13,7 +13,8 @@ use Rattle.rules.specs.Part.{decide}
 use Rattle.rules.specs.Parts.{Served}
 use Rattle.rules.specs.Election.{masterOf}
 use Rattle.rules.specs.Rules.{noRequest, isWrite, accepts, writeAnswer, handleWriteRule}
-use Rattle.seqs.specs.Columns.{column, column-at}
+use Rattle.seqs.specs.Arrays.{column}
+use Rattle.seqs.specs.Columns.{column-at}
 use Rattle.seqs.specs.Queue.{room-held}
 use Rattle.parts.specs.Hold.{holdRequests, holdResponses, packRequests, packResponse, packResponses, holdResponse, noResponse, responsesQueue}
 use Rattle.parts.specs.Ordered.{pop-requests, push-responses}

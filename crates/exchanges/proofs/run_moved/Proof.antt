@@ -4,7 +4,8 @@ use Prim.Native.Nat.{ℕ, _≤_, _-_}
 use native.Mathlib.Omega.{arith}
 use lib.ListN.{length, length-replicate}
 use lib.Seq.{length-take-le}
-use Rattle.seqs.specs.Tables.{table, table-length}
+use Rattle.seqs.specs.Arrays.{table}
+use Rattle.seqs.specs.Tables.{table-length}
 use Rattle.runner.specs.Ran.{noWrites}
 use Rattle.text.specs.Puts.{put-length}
 use Rattle.partings.specs.Runs.{Written}

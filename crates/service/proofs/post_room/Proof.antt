@@ -4,7 +4,8 @@ use mathlib.Core.Bool.{true, not}
 use Prim.Native.Nat.{ℕ, _≤_, _-_}
 use lib.ListN.{getD}
 use Rattle.rules.specs.Queues.{room, roomAll}
-use Rattle.seqs.specs.Columns.{column, column-more, column-at}
+use Rattle.seqs.specs.Arrays.{column}
+use Rattle.seqs.specs.Columns.{column-more, column-at}
 use Rattle.parts.specs.Hold.{holdEvents}
 use Rattle.state.specs.Hold.{eventsAt}
 use Rattle.state.specs.Order.{pastNode}

@@ -6,7 +6,7 @@ use lib.Seq.{getD-take, take-all}
 use borrow.Author.Tests.{ne-eqb}
 use Rattle.rules.specs.Queues.{remove, before}
 use Rattle.rules.specs.Ids.{placeOf}
-use Rattle.seqs.specs.Padded.{padded}
+use Rattle.seqs.specs.Arrays.{padded}
 use Rattle.parts.specs.Hold.{asIs, holdMastership}
 use Rattle.service.specs.Asks.{skipping}
 use Rattle.service.specs.Removal.{removed-length, removed-at, skip-below, padded-more}

@@ -6,7 +6,8 @@ use native.Mathlib.Omega.{arith}
 use lib.ListN.{length, drop, getD}
 use borrow.Author.Needs.{needs}
 use Rattle.rules.specs.Queues.{before}
-use Rattle.seqs.specs.Columns.{column, left-more, left-none}
+use Rattle.seqs.specs.Arrays.{column}
+use Rattle.seqs.specs.Columns.{left-more, left-none}
 use Rattle.state.specs.Hold.{idAt}
 use Rattle.streams.proofs.Passing.{before-cons, before-first, before-none}
 use Rattle.streams.proofs.before_id.Statement.{statement}

@@ -7,7 +7,8 @@ use lib.ListN.{length, set, length-set}
 use borrow.Author.Needs.{needs}
 use Rattle.rules.specs.Queues.{before}
 use Rattle.rules.specs.Election.{taken}
-use Rattle.seqs.specs.Columns.{column, length-column, column-set}
+use Rattle.seqs.specs.Arrays.{column}
+use Rattle.seqs.specs.Columns.{length-column, column-set}
 use Rattle.state.specs.Hold.{idAt}
 use Rattle.seqs.specs.Search.{has-before}
 use Rattle.streams.proofs.is_taken.Statement.{statement}

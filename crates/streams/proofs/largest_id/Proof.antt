@@ -6,7 +6,8 @@ use native.Mathlib.Omega.{arith}
 use lib.ListN.{length, drop}
 use borrow.Author.Needs.{needs}
 use Rattle.rules.specs.Election.{largest}
-use Rattle.seqs.specs.Columns.{column, left-more, left-none}
+use Rattle.seqs.specs.Arrays.{column}
+use Rattle.seqs.specs.Columns.{left-more, left-none}
 use Rattle.state.specs.Hold.{idAt}
 use Rattle.streams.proofs.Passing.{largest-cons, largest-none}
 use Rattle.streams.proofs.largest_id.Statement.{statement}

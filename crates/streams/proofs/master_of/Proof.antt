@@ -7,7 +7,8 @@ use borrow.Author.Tests.{eq-eqb, ne-eqb}
 use borrow.Author.Needs.{needs}
 use Rattle.rules.specs.Queues.{before}
 use Rattle.rules.specs.Election.{masterOf}
-use Rattle.seqs.specs.Columns.{column, length-column}
+use Rattle.seqs.specs.Arrays.{column}
+use Rattle.seqs.specs.Columns.{length-column}
 use Rattle.state.specs.Hold.{idAt}
 use Rattle.seqs.specs.Search.{before-le}
 use Rattle.streams.proofs.master_of.Statement.{statement}

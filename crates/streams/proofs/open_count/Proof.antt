@@ -2,7 +2,7 @@
 use mathlib.Core.Path.{ap, _∙_}
 use lib.Count.{ones}
 use borrow.Author.Needs.{needs}
-use Rattle.seqs.specs.Columns.{column}
+use Rattle.seqs.specs.Arrays.{column}
 use Rattle.words.specs.Flags.{ones-count}
 use Rattle.state.specs.Hold.{openAt}
 use Rattle.streams.proofs.open_count.Statement.{statement}

@@ -6,7 +6,8 @@ use native.Mathlib.Omega.{arith}
 use lib.ListN.{length, drop, getD, length-drop}
 use borrow.Author.Needs.{needs}
 use Rattle.rules.specs.Open.{wordOf}
-use Rattle.seqs.specs.Columns.{column, length-column, left-more, left-none}
+use Rattle.seqs.specs.Arrays.{column}
+use Rattle.seqs.specs.Columns.{length-column, left-more, left-none}
 use Rattle.words.specs.Flags.{word-none, word-cons, word-small}
 use Rattle.state.specs.Hold.{openAt}
 use Rattle.state.specs.Order.{pastStream}

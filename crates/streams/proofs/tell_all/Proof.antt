@@ -11,7 +11,8 @@ use borrow.Author.Needs.{needs}
 use Rattle.rules.specs.Limits.{mostNodes}
 use Rattle.rules.specs.Open.{wordOf}
 use Rattle.rules.specs.Election.{largest, masterOf, news}
-use Rattle.seqs.specs.Columns.{column, length-column}
+use Rattle.seqs.specs.Arrays.{column}
+use Rattle.seqs.specs.Columns.{length-column}
 use Rattle.words.specs.Flags.{Lowest, lowest}
 use Rattle.words.specs.Walk.{Walk, walk-start, walk-step, walk-at, walk-end}
 use Rattle.parts.specs.Hold.{packResponse}

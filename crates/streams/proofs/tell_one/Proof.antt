@@ -1,7 +1,7 @@
 -- `tell_one` meets its contract. Assumes nothing.
 use mathlib.Core.Path.{sym, ap, _∙_}
 use borrow.Author.Needs.{needs}
-use Rattle.seqs.specs.Columns.{column}
+use Rattle.seqs.specs.Arrays.{column}
 use Rattle.parts.specs.declared.Response.{Response}
 use Rattle.state.specs.Hold.{idAt}
 use Rattle.streams.specs.Does.{told}

@@ -9,7 +9,8 @@ use lib.ListN.{length, drop, getD}
 use borrow.Author.Needs.{needs}
 use Rattle.rules.specs.Limits.{queueLength}
 use Rattle.rules.specs.Election.{roomOpen}
-use Rattle.seqs.specs.Columns.{column, left-more, left-none}
+use Rattle.seqs.specs.Arrays.{column}
+use Rattle.seqs.specs.Columns.{left-more, left-none}
 use Rattle.parts.specs.Hold.{holdResponse, packResponse, noResponse, responsesQueue}
 use Rattle.seqs.specs.Queue.{room-held}
 use Rattle.state.specs.Hold.{openAt, responsesAt}

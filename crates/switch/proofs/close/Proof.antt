@@ -4,8 +4,7 @@ use mathlib.Core.Bool.{Bool}
 use borrow.Author.Needs.{needs}
 use Rattle.rules.specs.Limits.{mostNodes}
 use Rattle.rules.specs.Rules.{changes, closeRule}
-use Rattle.seqs.specs.Columns.{column}
-use Rattle.seqs.specs.Tables.{table}
+use Rattle.seqs.specs.Arrays.{column, table}
 use Rattle.state.specs.Hold.{idAt, openAt}
 use Rattle.state.specs.declared.Wire.{Wire}
 use Rattle.streams.specs.Does.{tellRow}

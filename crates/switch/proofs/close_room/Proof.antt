@@ -4,7 +4,7 @@ use Prim.Native.Nat.{_-_}
 use lib.ListN.{set}
 use borrow.Author.Needs.{needs}
 use Rattle.rules.specs.Election.{roomOpen}
-use Rattle.seqs.specs.Columns.{column}
+use Rattle.seqs.specs.Arrays.{column}
 use Rattle.state.specs.Hold.{openAt, responsesAt}
 use Rattle.state.specs.declared.Stream.{Stream}
 use Rattle.switch.proofs.Closing.{ordered-others, room-quiet, room-told}

@@ -2,7 +2,7 @@
 use mathlib.Core.Path.{ap, _∙_}
 use borrow.Author.Needs.{needs}
 use Rattle.rules.specs.Election.{taken}
-use Rattle.seqs.specs.Columns.{column}
+use Rattle.seqs.specs.Arrays.{column}
 use Rattle.parts.specs.declared.Request.{Request}
 use Rattle.state.specs.Hold.{idAt}
 use Rattle.switch.proofs.Updating.{has-head, head-is, collides-is}

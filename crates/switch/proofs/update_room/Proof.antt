@@ -6,7 +6,7 @@ use lib.ListN.{set, getD}
 use lib.Dec.{leb}
 use borrow.Author.Needs.{needs}
 use Rattle.rules.specs.Rules.{changes, updateRoom}
-use Rattle.seqs.specs.Columns.{column}
+use Rattle.seqs.specs.Arrays.{column}
 use Rattle.parts.specs.declared.Request.{Request}
 use Rattle.state.specs.Hold.{idAt}
 use Rattle.rules.specs.Limits.{queueLength}

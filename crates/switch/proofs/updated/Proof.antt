@@ -9,8 +9,7 @@ use borrow.Author.Needs.{needs}
 use Rattle.rules.specs.Limits.{mostNodes}
 use Rattle.rules.specs.Election.{news}
 use Rattle.rules.specs.Rules.{changes}
-use Rattle.seqs.specs.Columns.{column}
-use Rattle.seqs.specs.Tables.{table}
+use Rattle.seqs.specs.Arrays.{column, table}
 use Rattle.parts.specs.Hold.{packResponse}
 use Rattle.parts.specs.declared.Request.{Request}
 use Rattle.state.specs.Hold.{idAt, openAt}

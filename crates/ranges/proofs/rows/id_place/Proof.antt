@@ -6,7 +6,8 @@ use native.Mathlib.Omega.{arith}
 use lib.ListN.{length, drop, length-map}
 use borrow.Author.Needs.{needs}
 use Rattle.rules.specs.Queues.{before}
-use Rattle.seqs.specs.Columns.{column, length-column, column-at}
+use Rattle.seqs.specs.Arrays.{column}
+use Rattle.seqs.specs.Columns.{length-column, column-at}
 use Rattle.parts.specs.Places.{before-end, before-here, before-on}
 use Rattle.state.specs.Hold.{idAt}
 use Rattle.ranges.proofs.rows.id_place.Statement.{statement}
