@@ -3,7 +3,7 @@ use mathlib.Core.Bool.{Bool, true, false, cond, _&&_, _||_}
 use mathlib.Core.Option.{Option, none, some}
 use Prim.Native.Nat.{ℕ}
 use lib.Dec.{eqb}
-use Rattle.rules.specs.Codes.{stepDone, unknownKind, unknownNode}
+use Rattle.rules.specs.Codes.{stepDone, unknownKind, wrongNode}
 use Rattle.rules.specs.Range.{within}
 use Rattle.rules.specs.Rules.{Kind, classOf}
 use Rattle.rules.specs.Step.{kindOf, called}
@@ -27,7 +27,7 @@ atDesk a = deskKind (a .kind) && hasNode a
 -- Of a kind that does not exist, or at a node that it does not call for; 0 for any other.
 abbrev pub barrierOf : Option Kind → ℕ → ℕ → ℕ
 barrierOf none count n = unknownKind
-barrierOf (some k) count n = cond (called (classOf k) count n) stepDone unknownNode
+barrierOf (some k) count n = cond (called (classOf k) count n) stepDone wrongNode
 
 abbrev pub barrier : Ask → ℕ
 barrier a = barrierOf (kindOf (a .kind)) (a .count) (a .number)

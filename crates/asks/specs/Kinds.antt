@@ -7,7 +7,7 @@ use native.Mathlib.Omega.{arith}
 use native.Mathlib.Decide.{ℕ-discrete}
 use lib.Dec.{eqb, leb}
 use borrow.Author.Tests.{le-leb, lt-leb}
-use Rattle.rules.specs.Codes.{stepDone, unknownKind, unknownNode}
+use Rattle.rules.specs.Codes.{stepDone, unknownKind, wrongNode}
 use Rattle.rules.specs.Range.{within}
 use Rattle.rules.specs.Rules as R
 use Rattle.rules.specs.Step.{kindOf}
@@ -120,22 +120,22 @@ last-wire _ startup a b c = refl
 
 module _ (count n : ℕ) where
   pub no-barrier : (k : ℕ) → 13 < k → barrierOf (kindOf k) count n ≡ unknownKind
-  no-barrier k h = of-none (λ o. barrierOf o count n) (cond (within 1 count n) stepDone unknownNode) (cond (eqb n 0) stepDone unknownNode) refl k h
+  no-barrier k h = of-none (λ o. barrierOf o count n) (cond (within 1 count n) stepDone wrongNode) (cond (eqb n 0) stepDone wrongNode) refl k h
 
-  pub node-barrier : (k : ℕ) → 1 ≤ k → k ≤ 11 → barrierOf (kindOf k) count n ≡ cond (within 1 count n) stepDone unknownNode
-  node-barrier k h j = of-node (λ o. barrierOf o count n) (cond (within 1 count n) stepDone unknownNode) (cond (eqb n 0) stepDone unknownNode) refl k h (omega arith)
+  pub node-barrier : (k : ℕ) → 1 ≤ k → k ≤ 11 → barrierOf (kindOf k) count n ≡ cond (within 1 count n) stepDone wrongNode
+  node-barrier k h j = of-node (λ o. barrierOf o count n) (cond (within 1 count n) stepDone wrongNode) (cond (eqb n 0) stepDone wrongNode) refl k h (omega arith)
 
-  pub power-barrier : (k : ℕ) → 12 ≤ k → k ≤ 13 → barrierOf (kindOf k) count n ≡ cond (eqb n 0) stepDone unknownNode
-  power-barrier k h j = of-power (λ o. barrierOf o count n) (cond (within 1 count n) stepDone unknownNode) (cond (eqb n 0) stepDone unknownNode) refl k h (omega arith)
+  pub power-barrier : (k : ℕ) → 12 ≤ k → k ≤ 13 → barrierOf (kindOf k) count n ≡ cond (eqb n 0) stepDone wrongNode
+  power-barrier k h j = of-power (λ o. barrierOf o count n) (cond (within 1 count n) stepDone wrongNode) (cond (eqb n 0) stepDone wrongNode) refl k h (omega arith)
 
 -- ---- neither a row's kind nor the service's
 
 module _ (count n : ℕ) where
-  yes-of : (x : Bool) → cond x stepDone unknownNode ≡ stepDone → x ≡ true
+  yes-of : (x : Bool) → cond x stepDone wrongNode ≡ stepDone → x ≡ true
   yes-of true e = refl
   yes-of false e = absurd (omega arith)
 
-  clash : (x : Bool) → cond x stepDone unknownNode ≡ stepDone → x ≡ false → ⊥
+  clash : (x : Bool) → cond x stepDone wrongNode ≡ stepDone → x ≡ false → ⊥
   clash true e f = let w : _≡_ {A = ℕ} 0 1 = cc in absurd (omega arith)
   clash false e f = absurd (omega arith)
 

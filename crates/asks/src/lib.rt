@@ -69,12 +69,12 @@ pub fn barrier(ask: Ask) -> u8
         if has_node(ask) {
             return parts::DONE;
         }
-        return parts::UNKNOWN_NODE;
+        return parts::WRONG_NODE;
     }
     if ask.number == 0 {
         return parts::DONE;
     }
-    parts::UNKNOWN_NODE
+    parts::WRONG_NODE
 }
 
 // Whether the switch runs after the step.

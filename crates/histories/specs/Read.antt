@@ -8,7 +8,7 @@ use lib.ListN.{length, drop}
 use lib.Seq.{drop-at}
 use lib.Dec.{eqb, leb}
 use borrow.Author.Tests.{eq-eqb}
-use Rattle.rules.specs.Codes.{bufferShort}
+use Rattle.rules.specs.Codes.{outTooShort}
 use Rattle.rules.specs.State.{Write}
 use Rattle.rules.specs.Step.{Event}
 use Rattle.laws.specs.Tests.{is-eq}
@@ -47,7 +47,7 @@ run-refusal-low : (list out : List ℕ) → runRefusal list out < noWrites
 unfolding runRefusal
 run-refusal-low list out = go (eqb (refusal list) 0)
   where
-    go : (b : Bool) → cond b (need (leb (recordCount list + historyRoom) (length out)) bufferShort 0) (refusal list) < noWrites
+    go : (b : Bool) → cond b (need (leb (recordCount list + historyRoom) (length out)) outTooShort 0) (refusal list) < noWrites
     go true = need-low (leb (recordCount list + historyRoom) (length out)) _ _ (omega arith) (omega arith)
     go false = refusal-low list
 
@@ -78,7 +78,7 @@ pub bytes-kept-out : BytesKeptOut
 unfolding ran runRefusal
 bytes-kept-out list out = go (eqb (runRefusal list out) 0) refl
   where
-    list-good : (b : Bool) → eqb (refusal list) 0 ≡ b → cond b (need (leb (recordCount list + historyRoom) (length out)) bufferShort 0) (refusal list) ≡ 0 → refusal list ≡ 0
+    list-good : (b : Bool) → eqb (refusal list) 0 ≡ b → cond b (need (leb (recordCount list + historyRoom) (length out)) outTooShort 0) (refusal list) ≡ 0 → refusal list ≡ 0
     list-good true i e = is-eq (refusal list) 0 .to (rw i tt)
     list-good false i e = e
 

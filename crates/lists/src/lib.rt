@@ -43,13 +43,13 @@ fn refusal(list: &[u8]) -> u8
     }
     let at = length - TRAILER_LENGTH;
     if list[at + 10] != 0x4D {
-        return parts::BAD_TRAILER;
+        return parts::BAD_MARK;
     }
     if list[at + 11] != 0x41 {
-        return parts::BAD_TRAILER;
+        return parts::BAD_MARK;
     }
     if list[at + 9] != 0 {
-        return parts::BAD_TRAILER;
+        return parts::BAD_MARK;
     }
     let nodes = list[at + 8];
     if nodes < 1 {
@@ -63,7 +63,7 @@ fn refusal(list: &[u8]) -> u8
     if first + 2 * count + TRAILER_LENGTH == length {
         return parts::DONE;
     }
-    parts::BAD_SUM
+    parts::BAD_EXTENT
 }
 
 // What the trailer says; all 0 beside a refusal.

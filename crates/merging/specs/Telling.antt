@@ -8,7 +8,7 @@ use native.Mathlib.Omega.{arith}
 use lib.ListN.{length, set}
 use lib.Seq.{sets}
 use borrow.Author.Tests.{eq-eqb, ne-eqb, le-leb, lt-leb}
-use Rattle.rules.specs.Codes.{bufferShort}
+use Rattle.rules.specs.Codes.{outTooShort}
 use Rattle.lists.specs.EventList.{refusal, over}
 use Rattle.lists.specs.Written.{over-more}
 use Rattle.comparing.specs.declared.Finding.{Finding}
@@ -36,7 +36,7 @@ four-places f l h =
 
 module _ (first second out : List ℕ) where
   module _ (short : length out < placesLength) where
-    pub told-short : refusal first ≡ 0 → told first second out ≡ record { returned = bufferShort; places = out }
+    pub told-short : refusal first ≡ 0 → told first second out ≡ record { returned = outTooShort; places = out }
     unfolding told
     told-short h = simp (lt-leb placesLength (length out) short, eq-eqb (refusal first) 0 h)
 

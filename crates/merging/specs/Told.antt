@@ -4,7 +4,7 @@ use mathlib.Core.List.{List, [], _∷_, _++_}
 use Prim.Native.Nat.{ℕ, _/_, _%_}
 use lib.Dec.{eqb, leb}
 use lib.ListN.{length}
-use Rattle.rules.specs.Codes.{bufferShort}
+use Rattle.rules.specs.Codes.{outTooShort}
 use Rattle.lists.specs.EventList.{refusal, over}
 use Rattle.comparing.specs.declared.Finding.{Finding}
 use Rattle.comparing.specs.Compared.{compared}
@@ -32,4 +32,4 @@ unfoldable pub told : List ℕ → List ℕ → List ℕ → Told
 told first second out =
     cond (leb placesLength (length out))
     (given (compared first second) out)
-    (record { returned = cond (eqb (refusal first) 0) bufferShort (refusal first); places = out })
+    (record { returned = cond (eqb (refusal first) 0) outTooShort (refusal first); places = out })

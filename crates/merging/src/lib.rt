@@ -38,7 +38,7 @@ pub fn same_merge(first: &[u8], second: &[u8], places: &mut [u8]) -> u32
     if places.len() < PLACES {
         let trailer = lists::read_trailer(first);
         if trailer.code == parts::DONE {
-            return parts::BUFFER_SHORT as u32;
+            return parts::OUT_TOO_SHORT as u32;
         }
         return trailer.code as u32;
     }

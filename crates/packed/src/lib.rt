@@ -66,7 +66,7 @@ fn put_fields(buf: &mut [u8], read: Raw) -> usize
 // The most that is put.
 pub const FIELD_BYTES: usize = 40;
 
-const BUFFER_SHORT: u32 = 12;
+const OUT_TOO_SHORT: u32 = 12;
 
 // Reads a message and puts its fields at the front of the buffer; bytes after them stay. Returns 0, or why not: then the buffer stays as it was.
 pub fn read_into(message: &[u8], fields: &mut [u8]) -> u32
@@ -79,7 +79,7 @@ pub fn read_into(message: &[u8], fields: &mut [u8]) -> u32
             put_fields(fields, read);
             return wire::READ as u32;
         }
-        return BUFFER_SHORT;
+        return OUT_TOO_SHORT;
     }
     read.code as u32
 }

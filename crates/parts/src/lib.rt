@@ -24,11 +24,11 @@ pub const OUT_OF_RANGE: u8 = 1;
 
 pub const UNKNOWN_KIND: u8 = 2;
 
-pub const UNKNOWN_NODE: u8 = 3;
+pub const WRONG_NODE: u8 = 3;
 
 pub const NOT_ALLOWED: u8 = 4;
 
-pub const TERMS_SPENT: u8 = 5;
+pub const TERM_LIMIT: u8 = 5;
 
 pub const HISTORY_FULL: u8 = 6;
 
@@ -36,13 +36,13 @@ pub const QUEUE_FULL: u8 = 7;
 
 pub const BAD_LENGTH: u8 = 8;
 
-pub const BAD_TRAILER: u8 = 9;
+pub const BAD_MARK: u8 = 9;
 
 pub const BAD_NODE_COUNT: u8 = 10;
 
-pub const BAD_SUM: u8 = 11;
+pub const BAD_EXTENT: u8 = 11;
 
-pub const BUFFER_SHORT: u8 = 12;
+pub const OUT_TOO_SHORT: u8 = 12;
 
 // A term of the election service.
 pub struct Term(pub u16);

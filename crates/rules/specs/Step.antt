@@ -5,7 +5,7 @@ use mathlib.Core.List.{List, [], _∷_}
 use Prim.Native.Nat.{ℕ}
 use lib.ListN.{getD, replicate}
 use lib.Dec.{eqb}
-use Rattle.rules.specs.Codes.{outOfRange, unknownKind, unknownNode}
+use Rattle.rules.specs.Codes.{outOfRange, unknownKind, wrongNode}
 use Rattle.rules.specs.State.{State, blank}
 use Rattle.rules.specs.Range.{within, inRange}
 use Rattle.rules.specs.Part.{Result, via, decide}
@@ -45,7 +45,7 @@ refused a s = record { answer = a; state = s }
 
 abbrev pub atNode : Bool → Kind → ℕ → State → Result ℕ State
 atNode true k n s = act k n s
-atNode false k n s = refused unknownNode s
+atNode false k n s = refused wrongNode s
 
 abbrev pub ofKind : Option Kind → ℕ → State → Result ℕ State
 ofKind none n s = refused unknownKind s

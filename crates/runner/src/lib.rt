@@ -155,7 +155,7 @@ pub fn run(list: &[u8], out: &mut [u8]) -> u32
             let writes = run_records(list, trailer, out);
             return NO_WRITES + writes as u32;
         }
-        return parts::BUFFER_SHORT as u32;
+        return parts::OUT_TOO_SHORT as u32;
     }
     trailer.code as u32
 }

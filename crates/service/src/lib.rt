@@ -81,7 +81,7 @@ pub fn join_code(count: u8, number: u8, service: Mastership, nodes: [Node; 8]) -
 {
     if service.master == 0 {
         if parts::TOP_TERM <= service.term.0 {
-            return parts::TERMS_SPENT;
+            return parts::TERM_LIMIT;
         }
         return post_code(count, nodes);
     }
@@ -129,7 +129,7 @@ pub fn leave_code(count: u8, number: u8, service: Mastership, nodes: [Node; 8]) 
     if service.names(number) {
         if hands_over(service, number) {
             if parts::TOP_TERM <= service.term.0 {
-                return parts::TERMS_SPENT;
+                return parts::TERM_LIMIT;
             }
             return post_code(count, nodes);
         }

@@ -4,7 +4,7 @@ use mathlib.Core.Bool.{Bool, true, false, not, cond}
 use mathlib.Core.List.{List}
 use Prim.Native.Nat.{ℕ}
 use lib.Dec.{leb}
-use Rattle.rules.specs.Codes.{stepDone, notAllowed, termsSpent, historyFull, queueFull}
+use Rattle.rules.specs.Codes.{stepDone, notAllowed, termLimit, historyFull, queueFull}
 use Rattle.rules.specs.Limits.{queueLength}
 use Rattle.rules.specs.Queues.{room}
 use Rattle.rules.specs.Part.{Rule, done, need, decide}
@@ -26,7 +26,7 @@ module _ {R W : Type 0} (r : Rule R W) (v : R) where
   unfolding decide
   allowed-answer t h q = rw (t, h, q) (go (r .allowed v))
     where
-      go : (b : Bool) → cond b stepDone notAllowed ≡ answerOf (need b notAllowed (need true termsSpent (need true historyFull (need true queueFull (done stepDone (r .effect v))))))
+      go : (b : Bool) → cond b stepDone notAllowed ≡ answerOf (need b notAllowed (need true termLimit (need true historyFull (need true queueFull (done stepDone (r .effect v))))))
       go true = refl
       go false = refl
 
@@ -71,7 +71,7 @@ module _ (count : ℕ) (node : Node) (stream : Stream) (o : OrderedStream stream
       let f : room (holdRequests (stream .requests)) ≡ not full = room-held noRequest packRequest holdRequest (requestsQueue (stream .requests)) (o .requests) in
       rw (t, h, q, f) (go (r .allowed v) full)
     where
-      go : (allowed full : Bool) → sendAnswer allowed full ≡ answerOf (need allowed notAllowed (need true termsSpent (need true historyFull (need (not full) queueFull (done stepDone (r .effect v))))))
+      go : (allowed full : Bool) → sendAnswer allowed full ≡ answerOf (need allowed notAllowed (need true termLimit (need true historyFull (need (not full) queueFull (done stepDone (r .effect v))))))
       go true true = refl
       go true false = refl
       go false full = refl

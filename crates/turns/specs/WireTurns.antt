@@ -9,7 +9,7 @@ use Prim.Native.Nat.{ℕ, _≤_}
 use native.Mathlib.Omega.{arith}
 use native.Mathlib.Decide.{ℕ-discrete}
 use borrow.Author.Tests.{eq-eqb, ne-eqb}
-use Rattle.rules.specs.Codes.{stepDone, notAllowed, unknownNode}
+use Rattle.rules.specs.Codes.{stepDone, notAllowed, wrongNode}
 use Rattle.rules.specs.State as S
 use Rattle.rules.specs.Range.{within}
 use Rattle.rules.specs.Parts.{Telling}
@@ -43,7 +43,7 @@ pub barrier-answer : (o : Option Kind) (n : ℕ) (s : S.State) → barrierOf o (
 barrier-answer none n s h = refl
 barrier-answer (some k) n s h = go (called (classOf k) (s .count) n) h
   where
-    go : (x : Bool) → cond x stepDone unknownNode ≢ stepDone → cond x stepDone unknownNode ≡ atNode x k n s .answer
+    go : (x : Bool) → cond x stepDone wrongNode ≢ stepDone → cond x stepDone wrongNode ≡ atNode x k n s .answer
     go true h = absurd (h refl)
     go false h = refl
 

@@ -3,7 +3,7 @@ use mathlib.Core.Path.{sym, ap, _∙_}
 use mathlib.Core.Bool.{Bool, cond}
 use native.Mathlib.Omega.{arith}
 use borrow.Author.Tests.{eq-eqb, ne-eqb}
-use Rattle.rules.specs.Codes.{stepDone, unknownNode}
+use Rattle.rules.specs.Codes.{stepDone, wrongNode}
 use Rattle.asks.specs.Kinds.{no-barrier, node-barrier, power-barrier}
 use borrow.Author.Needs.{needs}
 use Rattle.asks.proofs.barrier.Statement.{statement}
@@ -23,22 +23,22 @@ has-node-requires c κs = search needs
 returns-3 : tie.Need-returns-3
 returns-3 c =
     let a = c .before .before .before .before .before .args .ask in
-    sym (node-barrier (a .count) (a .number) (a .kind) (omega arith) (omega arith) ∙ ap (λ (x : Bool). cond x stepDone unknownNode) (sym (c .before .has-node .ensures) ∙ c .if4 .taken))
+    sym (node-barrier (a .count) (a .number) (a .kind) (omega arith) (omega arith) ∙ ap (λ (x : Bool). cond x stepDone wrongNode) (sym (c .before .has-node .ensures) ∙ c .if4 .taken))
 
 returns-4 : tie.Need-returns-4
 returns-4 c =
     let a = c .before .before .before .before .before .args .ask in
-    sym (node-barrier (a .count) (a .number) (a .kind) (omega arith) (omega arith) ∙ ap (λ (x : Bool). cond x stepDone unknownNode) (sym (c .before .has-node .ensures) ∙ c .if4 .left))
+    sym (node-barrier (a .count) (a .number) (a .kind) (omega arith) (omega arith) ∙ ap (λ (x : Bool). cond x stepDone wrongNode) (sym (c .before .has-node .ensures) ∙ c .if4 .left))
 
 returns-5 : tie.Need-returns-5
 returns-5 c =
     let a = c .before .before .before .before .before .args .ask in
-    sym (power-barrier (a .count) (a .number) (a .kind) (omega arith) (omega arith) ∙ ap (λ (x : Bool). cond x stepDone unknownNode) (eq-eqb (a .number) 0 (c .if5 .taken)))
+    sym (power-barrier (a .count) (a .number) (a .kind) (omega arith) (omega arith) ∙ ap (λ (x : Bool). cond x stepDone wrongNode) (eq-eqb (a .number) 0 (c .if5 .taken)))
 
 returns-6 : tie.Need-returns-6
 returns-6 c =
     let a = c .before .before .before .before .before .args .ask in
-    sym (power-barrier (a .count) (a .number) (a .kind) (omega arith) (omega arith) ∙ ap (λ (x : Bool). cond x stepDone unknownNode) (ne-eqb (a .number) 0 (c .if5 .left)))
+    sym (power-barrier (a .count) (a .number) (a .kind) (omega arith) (omega arith) ∙ ap (λ (x : Bool). cond x stepDone wrongNode) (ne-eqb (a .number) 0 (c .if5 .left)))
 
 pub barrier-spec : {M : Type 1} → statement M
 barrier-spec = tie.close (tie.spec returns returns-2 has-node-requires returns-3 returns-4 returns-5 returns-6)
