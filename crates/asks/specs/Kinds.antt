@@ -32,11 +32,11 @@ pub data DeskKind : ℕ → Type 0 where
   join : DeskKind 1
   leave : DeskKind 2
 
-pub data WireKind : ℕ → Type 0 where
-  close : WireKind 9
-  handleUpdate : WireKind 10
-  shutdown : WireKind 12
-  startup : WireKind 13
+pub data BoardKind : ℕ → Type 0 where
+  close : BoardKind 9
+  handleUpdate : BoardKind 10
+  shutdown : BoardKind 12
+  startup : BoardKind 13
 
 -- ---- a number within bounds, or not
 
@@ -110,11 +110,11 @@ pub last-desk : (k : ℕ) → DeskKind k → k ≢ 1 → k ≡ 2
 last-desk _ join a = absurd (a refl)
 last-desk _ leave a = refl
 
-pub last-wire : (k : ℕ) → WireKind k → k ≢ 9 → k ≢ 10 → k ≢ 12 → k ≡ 13
-last-wire _ close a b c = absurd (a refl)
-last-wire _ handleUpdate a b c = absurd (b refl)
-last-wire _ shutdown a b c = absurd (c refl)
-last-wire _ startup a b c = refl
+pub last-board : (k : ℕ) → BoardKind k → k ≢ 9 → k ≢ 10 → k ≢ 12 → k ≡ 13
+last-board _ close a b c = absurd (a refl)
+last-board _ handleUpdate a b c = absurd (b refl)
+last-board _ shutdown a b c = absurd (c refl)
+last-board _ startup a b c = refl
 
 -- ---- whether a kind exists, and the node is one that it calls for: one of the N for kinds 1 to 11, and 0 for 12 and 13
 
@@ -139,32 +139,32 @@ module _ (count n : ℕ) where
   clash true e f = let w : _≡_ {A = ℕ} 0 1 = cc in absurd (omega arith)
   clash false e f = absurd (omega arith)
 
-  pub wire-kind : (k : ℕ) → (rowKind k && within 1 count n) ≡ false → (deskKind k && within 1 count n) ≡ false → barrierOf (kindOf k) count n ≡ stepDone → WireKind k
+  pub board-kind : (k : ℕ) → (rowKind k && within 1 count n) ≡ false → (deskKind k && within 1 count n) ≡ false → barrierOf (kindOf k) count n ≡ stepDone → BoardKind k
   unfolding within
-  wire-kind zero r d z = absurd (omega arith)
-  wire-kind (suc zero) r d z = absurd (clash (within 1 count n) z d)
-  wire-kind (suc (suc zero)) r d z = absurd (clash (within 1 count n) z d)
-  wire-kind (suc (suc (suc zero))) r d z = absurd (clash (within 1 count n) z r)
-  wire-kind (suc (suc (suc (suc zero)))) r d z = absurd (clash (within 1 count n) z r)
-  wire-kind (suc (suc (suc (suc (suc zero))))) r d z = absurd (clash (within 1 count n) z r)
-  wire-kind (suc (suc (suc (suc (suc (suc zero)))))) r d z = absurd (clash (within 1 count n) z r)
-  wire-kind (suc (suc (suc (suc (suc (suc (suc zero))))))) r d z = absurd (clash (within 1 count n) z r)
-  wire-kind (suc (suc (suc (suc (suc (suc (suc (suc zero)))))))) r d z = absurd (clash (within 1 count n) z r)
-  wire-kind (suc (suc (suc (suc (suc (suc (suc (suc (suc zero))))))))) r d z = close
-  wire-kind (suc (suc (suc (suc (suc (suc (suc (suc (suc (suc zero)))))))))) r d z = handleUpdate
-  wire-kind (suc (suc (suc (suc (suc (suc (suc (suc (suc (suc (suc zero))))))))))) r d z = absurd (clash (within 1 count n) z r)
-  wire-kind (suc (suc (suc (suc (suc (suc (suc (suc (suc (suc (suc (suc zero)))))))))))) r d z = shutdown
-  wire-kind (suc (suc (suc (suc (suc (suc (suc (suc (suc (suc (suc (suc (suc zero))))))))))))) r d z = startup
-  wire-kind (suc (suc (suc (suc (suc (suc (suc (suc (suc (suc (suc (suc (suc (suc k)))))))))))))) r d z = absurd (omega arith)
+  board-kind zero r d z = absurd (omega arith)
+  board-kind (suc zero) r d z = absurd (clash (within 1 count n) z d)
+  board-kind (suc (suc zero)) r d z = absurd (clash (within 1 count n) z d)
+  board-kind (suc (suc (suc zero))) r d z = absurd (clash (within 1 count n) z r)
+  board-kind (suc (suc (suc (suc zero)))) r d z = absurd (clash (within 1 count n) z r)
+  board-kind (suc (suc (suc (suc (suc zero))))) r d z = absurd (clash (within 1 count n) z r)
+  board-kind (suc (suc (suc (suc (suc (suc zero)))))) r d z = absurd (clash (within 1 count n) z r)
+  board-kind (suc (suc (suc (suc (suc (suc (suc zero))))))) r d z = absurd (clash (within 1 count n) z r)
+  board-kind (suc (suc (suc (suc (suc (suc (suc (suc zero)))))))) r d z = absurd (clash (within 1 count n) z r)
+  board-kind (suc (suc (suc (suc (suc (suc (suc (suc (suc zero))))))))) r d z = close
+  board-kind (suc (suc (suc (suc (suc (suc (suc (suc (suc (suc zero)))))))))) r d z = handleUpdate
+  board-kind (suc (suc (suc (suc (suc (suc (suc (suc (suc (suc (suc zero))))))))))) r d z = absurd (clash (within 1 count n) z r)
+  board-kind (suc (suc (suc (suc (suc (suc (suc (suc (suc (suc (suc (suc zero)))))))))))) r d z = shutdown
+  board-kind (suc (suc (suc (suc (suc (suc (suc (suc (suc (suc (suc (suc (suc zero))))))))))))) r d z = startup
+  board-kind (suc (suc (suc (suc (suc (suc (suc (suc (suc (suc (suc (suc (suc (suc k)))))))))))))) r d z = absurd (omega arith)
 
-  pub wire-node : (k : ℕ) → WireKind k → k ≤ 10 → barrierOf (kindOf k) count n ≡ stepDone → within 1 count n ≡ true
-  wire-node _ close h z = yes-of (within 1 count n) z
-  wire-node _ handleUpdate h z = yes-of (within 1 count n) z
-  wire-node _ shutdown h z = absurd (omega arith)
-  wire-node _ startup h z = absurd (omega arith)
+  pub board-node : (k : ℕ) → BoardKind k → k ≤ 10 → barrierOf (kindOf k) count n ≡ stepDone → within 1 count n ≡ true
+  board-node _ close h z = yes-of (within 1 count n) z
+  board-node _ handleUpdate h z = yes-of (within 1 count n) z
+  board-node _ shutdown h z = absurd (omega arith)
+  board-node _ startup h z = absurd (omega arith)
 
-  pub wire-none : (k : ℕ) → WireKind k → 12 ≤ k → barrierOf (kindOf k) count n ≡ stepDone → n ≡ 0
-  wire-none _ close h z = absurd (omega arith)
-  wire-none _ handleUpdate h z = absurd (omega arith)
-  wire-none _ shutdown h z = is-eq n 0 .to (is-yes (eqb n 0) .from (yes-of (eqb n 0) z))
-  wire-none _ startup h z = is-eq n 0 .to (is-yes (eqb n 0) .from (yes-of (eqb n 0) z))
+  pub board-none : (k : ℕ) → BoardKind k → 12 ≤ k → barrierOf (kindOf k) count n ≡ stepDone → n ≡ 0
+  board-none _ close h z = absurd (omega arith)
+  board-none _ handleUpdate h z = absurd (omega arith)
+  board-none _ shutdown h z = is-eq n 0 .to (is-yes (eqb n 0) .from (yes-of (eqb n 0) z))
+  board-none _ startup h z = is-eq n 0 .to (is-yes (eqb n 0) .from (yes-of (eqb n 0) z))

@@ -8,7 +8,7 @@ ghost use Rattle.rules.specs.Limits.{mostNodes};
 ghost use Rattle.rules.specs.State as S;
 ghost use Rattle.rules.specs.Step.{kindOf, ofKind};
 ghost use Rattle.moves.specs.Bodies.{stateOf, Ready, Leaves};
-ghost use Rattle.moves.specs.Sets.{withDesk, withNode, withWire};
+ghost use Rattle.moves.specs.Sets.{withDesk, withNode, withBoard};
 ghost use Rattle.moves.specs.Acts.{plain};
 ghost use Rattle.asks.specs.Classes.{atRow, atDesk};
 ghost use Rattle.turns.specs.Called.{askOf};
@@ -19,7 +19,7 @@ use parts::Term;
 use state::Body;
 use state::Moved;
 use state::Node;
-use state::Wire;
+use state::Board;
 use turns::Row;
 
 // The body stays as it is, or was changed, and no write was accepted.
@@ -57,11 +57,11 @@ fn with_desk(body: Body, service: Mastership, nodes: [Node; 8]) -> Body
     next
 }
 
-fn with_wire(body: Body, running: bool, wire: Wire) -> Body
-    ensures { λ r. ⌜ r ≡ withWire running (wire .streams) (wire .claims) body ⌝ }
+fn with_board(body: Body, running: bool, board: Board) -> Body
+    ensures { λ r. ⌜ r ≡ withBoard running (board .streams) (board .claims) body ⌝ }
 {
-    let streams = wire.streams;
-    let claims = wire.claims;
+    let streams = board.streams;
+    let claims = board.claims;
     let mut core = body.core;
     core.streams = streams;
     core.claims = claims;
@@ -151,7 +151,7 @@ fn at_desk(body: Body, kind: u8, number: u8) -> Moved
 }
 
 // A step of the switch and all streams, or one that nothing calls for.
-fn at_wire(body: Body, kind: u8, number: u8) -> Moved
+fn at_board(body: Body, kind: u8, number: u8) -> Moved
     requires { ⌜ Ready body × (atRow (askOf body kind number) ≡ false) × (atDesk (askOf body kind number) ≡ false) ⌝ }
     ensures { λ r. ⌜ ((history : List S.Write) → Leaves number history (ofKind (kindOf kind) number (stateOf body history)) r) ⌝ }
 {
@@ -164,10 +164,10 @@ fn at_wire(body: Body, kind: u8, number: u8) -> Moved
     let core = body.core;
     let streams = core.streams;
     let claims = core.claims;
-    let code = turns::wire_code(ask, streams, claims);
+    let code = turns::board_code(ask, streams, claims);
     if code == parts::DONE {
-        let wire = turns::wire_after(ask, streams, claims);
-        return plain(parts::DONE, with_wire(body, asks::runs_after(ask), wire));
+        let board = turns::board_after(ask, streams, claims);
+        return plain(parts::DONE, with_board(body, asks::runs_after(ask), board));
     }
     plain(code, body)
 }
@@ -189,5 +189,5 @@ pub fn advance(body: Body, writes: u16, kind: u8, number: u8) -> Moved
     if asks::at_desk(ask) {
         return at_desk(body, kind, number);
     }
-    at_wire(body, kind, number)
+    at_board(body, kind, number)
 }

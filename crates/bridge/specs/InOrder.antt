@@ -16,8 +16,8 @@ use Rattle.laws.specs.Ids.{fewer-backups}
 use Rattle.seqs.specs.Tables.{table-get}
 use Rattle.parts.specs.Ordered.{OrderedMastership, ordered-mastership, ordered-events, ordered-requests, ordered-responses}
 use Rattle.state.specs.Hold.{nodeRow, streamRow, packNodes, packStreams, packClaims, packCore, represent}
-use Rattle.state.specs.Order.{OrderedNodes, OrderedWire, pastNode, pastStream}
-use Rattle.bridge.specs.Held.{events-back, learned-back, says-back, wire-back}
+use Rattle.state.specs.Order.{OrderedNodes, OrderedBoard, pastNode, pastStream}
+use Rattle.bridge.specs.Held.{events-back, learned-back, says-back, board-back}
 
 -- ---- there is a place for every backup
 
@@ -56,16 +56,16 @@ module _ (n : ℕ) (running : Bool) (c : S.Core) (few : n ≤ mostNodes) (k : Co
     same = λ i. packNodes (events-back n few events (c .learned) (c .says) (k .desk .size) i) (learned-back n few events (c .learned) (c .says) (k .learned-size) i) (says-back n few events (c .learned) (c .says) (k .says-size) i);
   }
 
-  wire-ordered : OrderedWire n (packStreams (c .wire)) (packClaims (c .wire))
+  board-ordered : OrderedBoard n (packStreams (c .board)) (packClaims (c .board))
   unfolding packStreams
-  wire-ordered = let w = c .wire in record {
+  board-ordered = let w = c .board in record {
     few = few;
     rows = λ i h. rw (table-get mostNodes (streamRow w) i pastStream (omega arith)) (record {
-      requests = ordered-requests (getD (w .requests) i []) (k .wire .streams i .requests-fit .short);
-      responses = ordered-responses (getD (w .responses) i []) (k .wire .streams i .responses-fit .short);
+      requests = ordered-requests (getD (w .requests) i []) (k .board .streams i .requests-fit .short);
+      responses = ordered-responses (getD (w .responses) i []) (k .board .streams i .responses-fit .short);
     });
-    streams-same = ap packStreams (wire-back n running w few (k .wire));
-    claims-same = ap packClaims (wire-back n running w few (k .wire));
+    streams-same = ap packStreams (board-back n running w few (k .board));
+    claims-same = ap packClaims (board-back n running w few (k .board));
   }
 
 -- ---- the state
@@ -75,9 +75,9 @@ module _ (t : S.State) (h : T (inRange t)) where
   unfolding represent packCore
   ordered-nodes = let r = range-sound t h in nodes-ordered (t .count) (t .running) (t .core) (r .count .upper) (r .core)
 
-  pub ordered-wire : OrderedWire (t .count) (represent t .core .streams) (represent t .core .claims)
+  pub ordered-board : OrderedBoard (t .count) (represent t .core .streams) (represent t .core .claims)
   unfolding represent packCore
-  ordered-wire = let r = range-sound t h in wire-ordered (t .count) (t .running) (t .core) (r .count .upper) (r .core)
+  ordered-board = let r = range-sound t h in board-ordered (t .count) (t .running) (t .core) (r .count .upper) (r .core)
 
   pub ordered-service : OrderedMastership (represent t .core .service)
   unfolding represent packCore

@@ -104,12 +104,12 @@ module _ (n : ℕ) (running : Bool) (c : S.Core) (few : n ≤ mostNodes) (k : Co
         mastership-passes m (learned-short n few m (learned-at n running c few k i)),
       )
 
-  stream-passes : (i : ℕ) → T (tidyStream (streamRow (c .wire) i))
+  stream-passes : (i : ℕ) → T (tidyStream (streamRow (c .board) i))
   unfolding tidyStream
   stream-passes i =
-      let q = getD (c .wire .requests) i [] in
-      let a = getD (c .wire .responses) i [] in
-      let h = k .wire .streams i in
+      let q = getD (c .board .requests) i [] in
+      let a = getD (c .board .responses) i [] in
+      let h = k .board .streams i in
       (as-is (tidyPlaces queueLength tidyRequest blankRequest (padded noRequest packRequest queueLength q) (length q)) & as-is (tidyPlaces queueLength tidyResponse blankResponse (padded noResponse packResponse queueLength a) (length a))) .from (
         places-pass noRequest packRequest tidyRequest blankRequest no-request queueLength q (h .requests-fit .short) (every request-passes q),
         places-pass noResponse packResponse tidyResponse blankResponse no-response queueLength a (h .responses-fit .short) (every response-passes a),
@@ -121,14 +121,14 @@ module _ (n : ℕ) (running : Bool) (c : S.Core) (few : n ≤ mostNodes) (k : Co
   node-blank : (i : ℕ) → n ≤ i → T (blankNode (nodeRow (c .desk .events) (c .learned) (c .says) i))
   node-blank i h = rw (past (c .desk .events) [] i (k .desk .size) h, past (c .learned) S.blank i (k .learned-size) h, past (c .says) false i (k .says-size) h) no-node
 
-  stream-blank : (i : ℕ) → n ≤ i → T (blankStream (streamRow (c .wire) i))
-  stream-blank i h = let w = c .wire in let z = k .wire in
+  stream-blank : (i : ℕ) → n ≤ i → T (blankStream (streamRow (c .board) i))
+  stream-blank i h = let w = c .board in let z = k .board in
       rw (past (w .opens) false i (z .opens-size) h, past (w .sent) 0 i (z .sent-size) h, past (w .requests) [] i (z .requests-size) h, past (w .responses) [] i (z .responses-size) h) no-stream
 
   core-passes : T (tidyCore n (packCore c))
   unfolding tidyCore packCore packNodes packStreams packClaims
   core-passes =
-      let w = c .wire in
+      let w = c .board in
       let nodes = table mostNodes (nodeRow (c .desk .events) (c .learned) (c .says)) in
       let streams = table mostNodes (streamRow w) in
       let ids = table mostNodes (idRow (w .ids)) in
@@ -149,9 +149,9 @@ module _ (n : ℕ) (running : Bool) (c : S.Core) (few : n ≤ mostNodes) (k : Co
             ),
             from-all blankStream (drop n streams) (dropped-table (λ r. T (blankStream r)) n mostNodes (streamRow w) stream-blank),
           ),
-          from-all blankId (drop n ids) (dropped-table (λ r. T (blankId r)) n mostNodes (idRow (w .ids)) (λ i h. rw (past (w .ids) 0 i (k .wire .ids-size) h) tt)),
+          from-all blankId (drop n ids) (dropped-table (λ r. T (blankId r)) n mostNodes (idRow (w .ids)) (λ i h. rw (past (w .ids) 0 i (k .board .ids-size) h) tt)),
         ),
-        from-all blankTerm (drop n terms) (dropped-table (λ r. T (blankTerm r)) n mostNodes (termRow (w .terms)) (λ i h. rw (past (w .terms) 0 i (k .wire .terms-size) h) tt)),
+        from-all blankTerm (drop n terms) (dropped-table (λ r. T (blankTerm r)) n mostNodes (termRow (w .terms)) (λ i h. rw (past (w .terms) 0 i (k .board .terms-size) h) tt)),
       )
 
 -- ---- the state

@@ -31,7 +31,7 @@ use Rattle.state.specs.declared.Claims.{Claims}
 use Rattle.state.specs.declared.Write.{Write}
 use Rattle.state.specs.declared.History.{History}
 use Rattle.state.specs.declared.State.{State}
-use Rattle.state.specs.Hold.{eventsAt, learnedAt, saysAt, openAt, sentAt, requestsAt, responsesAt, idAt, termAt, packNode, packStream, nodeRow, streamRow, idRow, termRow, packNodes, packStreams, packClaims, packCore, packHistory, packWrite, noWrite, holdWrite, holdWire, holdDesk, holdCore, holdHistory, hold, represent}
+use Rattle.state.specs.Hold.{eventsAt, learnedAt, saysAt, openAt, sentAt, requestsAt, responsesAt, idAt, termAt, packNode, packStream, nodeRow, streamRow, idRow, termRow, packNodes, packStreams, packClaims, packCore, packHistory, packWrite, noWrite, holdWrite, holdBoard, holdDesk, holdCore, holdHistory, hold, represent}
 use Rattle.state.specs.Order.{pastNode, pastStream}
 use Rattle.state.specs.Tidy.{isZero, noMessage, noStatus, blankMastership, blankRequest, blankResponse, tidyMastership, tidyRequest, tidyResponse, tidyPlaces, tidyNode, tidyStream, blankNode, blankStream, blankId, blankTerm, tidyCore, anyWrite, blankWrite, tidyHistory, stateFits}
 use Rattle.bridge.specs.Sized.{SizedMastership, SizedNode, SizedStream, Sized}
@@ -259,18 +259,18 @@ module _ (n : ℕ) (few : n ≤ mostNodes) where
       (λ i h z. packNode (column-past eventsAt n i l [] f h z) (column-past learnedAt n i l S.blank f h z) (column-past saysAt n i l false f h z))
 
   streams-same : (l : List Stream) (claims : Claims) → length l ≡ mostNodes → All SizedStream l → T (all tidyStream (take n l)) → T (all blankStream (drop n l))
-      → packStreams (holdWire n l claims) ≡ l
-  unfolding packStreams holdWire
+      → packStreams (holdBoard n l claims) ≡ l
+  unfolding packStreams holdBoard
   streams-same l claims e k t b = let f : n ≤ length l = omega arith in
-      table-same mostNodes n (streamRow (holdWire n l claims)) l pastStream (packStream false 0 [] []) (λ r. packStream (openAt r) (sentAt r) (requestsAt r) (responsesAt r)) e
+      table-same mostNodes n (streamRow (holdBoard n l claims)) l pastStream (packStream false 0 [] []) (λ r. packStream (openAt r) (sentAt r) (requestsAt r) (responsesAt r)) e
       (all-known tidyStream stream-same (take n l) (all-take SizedStream n l k) t)
       (all-known blankStream stream-none (drop n l) (all-drop SizedStream n l k) b)
       (λ i h z. packStream (column-at openAt n i l pastStream h z) (column-at sentAt n i l pastStream h z) (column-at requestsAt n i l pastStream h z) (column-at responsesAt n i l pastStream h z))
       (λ i h z. packStream (column-past openAt n i l false f h z) (column-past sentAt n i l 0 f h z) (column-past requestsAt n i l [] f h z) (column-past responsesAt n i l [] f h z))
 
   claims-same : (l : List Stream) (c : Claims) → length (c .ids) ≡ mostNodes → length (c .terms) ≡ mostNodes → T (all blankId (drop n (c .ids))) → T (all blankTerm (drop n (c .terms)))
-      → packClaims (holdWire n l c) ≡ c
-  unfolding packClaims holdWire
+      → packClaims (holdBoard n l c) ≡ c
+  unfolding packClaims holdBoard
   claims-same l c e e′ b b′ = let f : n ≤ length (c .ids) = omega arith in let f′ : n ≤ length (c .terms) = omega arith in λ i. record {
     ids = table-same mostNodes n (idRow (column idAt n (c .ids))) (c .ids) (record { 0 = 0 }) (record { 0 = 0 }) (λ x. x) e
         (all-refl (take n (c .ids))) (all-known blankId id-none (drop n (c .ids)) (all-any (drop n (c .ids))) b)

@@ -6,7 +6,7 @@ use lib.ListN.{length, getD}
 use Rattle.rules.specs.State as S
 use Rattle.rules.specs.Parts.{learnPart, sendPart, receivePart, linkPart, servePart, onDevice}
 use Rattle.seqs.specs.Columns.{column, column-at}
-use Rattle.state.specs.Hold.{eventsAt, learnedAt, saysAt, openAt, sentAt, requestsAt, responsesAt, holdCore, holdDesk, holdWire}
+use Rattle.state.specs.Hold.{eventsAt, learnedAt, saysAt, openAt, sentAt, requestsAt, responsesAt, holdCore, holdDesk, holdBoard}
 use Rattle.state.specs.Order.{pastNode, pastStream}
 use Rattle.state.specs.Reads.{inboxOf, senderOf, receiverOf, linkedOf, servedOf}
 use Rattle.state.specs.declared.Node.{Node}
@@ -33,7 +33,7 @@ module _ (b : Body) (n : ℕ) (lt : n - 1 < b .count) (history : List S.Write) w
   inbox-read = λ j. record { events = in-nodes eventsAt j; learned = in-nodes learnedAt j }
 
   pub sender-read : senderOf (b .count) (nodeOf b n) (streamOf b n) ≡ sendPart n .get (stateOf b history)
-  unfolding holdCore holdWire
+  unfolding holdCore holdBoard
   sender-read = λ j. record {
     count = b .count;
     learned = in-nodes learnedAt j;
@@ -44,7 +44,7 @@ module _ (b : Body) (n : ℕ) (lt : n - 1 < b .count) (history : List S.Write) w
   }
 
   pub receiver-read : receiverOf (b .count) (nodeOf b n) (streamOf b n) ≡ receivePart n .get (stateOf b history)
-  unfolding holdCore holdWire
+  unfolding holdCore holdBoard
   receiver-read = λ j. record {
     count = b .count;
     learned = in-nodes learnedAt j;
@@ -55,11 +55,11 @@ module _ (b : Body) (n : ℕ) (lt : n - 1 < b .count) (history : List S.Write) w
   }
 
   pub linked-read : linkedOf (b .running) (streamOf b n) ≡ onDevice (linkPart n) .get (stateOf b history)
-  unfolding holdCore holdWire
+  unfolding holdCore holdBoard
   linked-read = λ j. record { running = b .running; isOpen = in-streams openAt j }
 
   pub served-read : servedOf (b .count) n (b .running) (streamOf b n) (b .core .claims) (length history) ≡ onDevice (servePart n) .get (stateOf b history)
-  unfolding holdCore holdWire
+  unfolding holdCore holdBoard
   served-read = let s = onDevice (servePart n) .get (stateOf b history) in λ j. record {
     running = b .running;
     isOpen = in-streams openAt j;

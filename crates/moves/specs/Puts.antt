@@ -20,7 +20,7 @@ pub node-at : (events : List (List S.Mastership)) (learned : List S.Mastership) 
 unfolding packNodes
 node-at events learned says i h = table-get mostNodes (nodeRow events learned says) i pastNode h
 
-pub stream-at : (w : S.Wire) (i : ℕ) → i < mostNodes → getD (packStreams w) i pastStream ≡ streamRow w i
+pub stream-at : (w : S.Board) (i : ℕ) → i < mostNodes → getD (packStreams w) i pastStream ≡ streamRow w i
 unfolding packStreams
 stream-at w i h = table-get mostNodes (streamRow w) i pastStream h
 
@@ -43,7 +43,7 @@ module _ (events : List (List S.Mastership)) (learned : List S.Mastership) (says
 
 -- ---- one row of the streams
 
-module _ (w : S.Wire) (j : ℕ) where
+module _ (w : S.Board) (j : ℕ) where
   pub sent-stored : (v : Sent) → j < length (w .sent) → j < length (w .requests)
       → set (packStreams w) j (storeSent v (streamRow w j)) ≡ packStreams (record {
         opens = w .opens;

@@ -20,15 +20,15 @@ withDesk service nodes b = record {
 abbrev pub withNode : ℕ → Node → Body → Body
 withNode n r b = withDesk (b .core .service) (set (b .core .nodes) (n - 1) r) b
 
-abbrev pub withWire : Bool → List Stream → Claims → Body → Body
-withWire running streams claims b = record {
+abbrev pub withBoard : Bool → List Stream → Claims → Body → Body
+withBoard running streams claims b = record {
   count = b .count;
   running = running;
   core = record { service = b .core .service; nodes = b .core .nodes; streams = streams; claims = claims };
 }
 
 abbrev pub withStream : ℕ → Stream → Body → Body
-withStream n r b = withWire (b .running) (set (b .core .streams) (n - 1) r) (b .core .claims) b
+withStream n r b = withBoard (b .running) (set (b .core .streams) (n - 1) r) (b .core .claims) b
 
 abbrev pub withLast : Term → Body → Body
-withLast t b = withWire (b .running) (b .core .streams) (record { ids = b .core .claims .ids; terms = b .core .claims .terms; last = t }) b
+withLast t b = withBoard (b .running) (b .core .streams) (record { ids = b .core .claims .ids; terms = b .core .claims .terms; last = t }) b

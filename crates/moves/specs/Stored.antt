@@ -14,17 +14,17 @@ use Rattle.seqs.specs.Columns.{column}
 use Rattle.parts.specs.Hold.{packMastership}
 use Rattle.parts.specs.Ordered.{OrderedMastership}
 use Rattle.parts.specs.declared.Mastership.{Mastership}
-use Rattle.state.specs.Hold.{eventsAt, learnedAt, saysAt, nodeRow, streamRow, packNodes, packStreams, packClaims, packCore, holdCore, holdDesk, holdWire, represent}
-use Rattle.state.specs.Order.{OrderedNodes, OrderedWire, pastNode, pastStream}
+use Rattle.state.specs.Hold.{eventsAt, learnedAt, saysAt, nodeRow, streamRow, packNodes, packStreams, packClaims, packCore, holdCore, holdDesk, holdBoard, represent}
+use Rattle.state.specs.Order.{OrderedNodes, OrderedBoard, pastNode, pastStream}
 use Rattle.state.specs.Stores.{storeEvents, storeInbox, storeSent, storeSays, storeReceived, storeOpen, storeTelling, storeServing}
 use Rattle.state.specs.declared.Node.{Node}
 use Rattle.state.specs.declared.Stream.{Stream}
 use Rattle.state.specs.declared.Claims.{Claims}
 use Rattle.state.specs.declared.Body.{Body}
-use Rattle.bridge.specs.InOrder.{ordered-nodes, ordered-wire, ordered-service}
+use Rattle.bridge.specs.InOrder.{ordered-nodes, ordered-board, ordered-service}
 use Rattle.moves.specs.Bodies.{stateOf, bodyOf, Ready}
 use Rattle.moves.specs.Gets.{nodeOf, streamOf}
-use Rattle.moves.specs.Sets.{withDesk, withNode, withWire, withStream, withLast}
+use Rattle.moves.specs.Sets.{withDesk, withNode, withBoard, withStream, withLast}
 use Rattle.moves.specs.Puts.{node-at, stream-at, inbox-stored, says-stored, sent-stored, received-stored, open-stored, serving-stored}
 
 module _ (b : Body) (ready : Ready b) where
@@ -41,9 +41,9 @@ module _ (b : Body) (ready : Ready b) where
   unfolding represent
   in-order-nodes = rw (ap (λ (x : Body). x .core .nodes) (ready .same)) at (ordered-nodes (stateOf b []) (ready .fits))
 
-  pub in-order-wire : OrderedWire (b .count) (b .core .streams) (b .core .claims)
+  pub in-order-board : OrderedBoard (b .count) (b .core .streams) (b .core .claims)
   unfolding represent
-  in-order-wire = subst (λ (x : Body). OrderedWire (b .count) (x .core .streams) (x .core .claims)) (ready .same) (ordered-wire (stateOf b []) (ready .fits))
+  in-order-board = subst (λ (x : Body). OrderedBoard (b .count) (x .core .streams) (x .core .claims)) (ready .same) (ordered-board (stateOf b []) (ready .fits))
 
   pub in-order-service : OrderedMastership (b .core .service)
   unfolding represent
@@ -57,17 +57,17 @@ module _ (b : Body) (ready : Ready b) where
   unfolding packCore
   nodes-same = ap (λ (x : Body). x .core .nodes) (sym (ready .same))
 
-  streams-same : b .core .streams ≡ packStreams (heldCore .wire)
+  streams-same : b .core .streams ≡ packStreams (heldCore .board)
   unfolding packCore
   streams-same = ap (λ (x : Body). x .core .streams) (sym (ready .same))
 
-  claims-same : b .core .claims ≡ packClaims (heldCore .wire)
+  claims-same : b .core .claims ≡ packClaims (heldCore .board)
   unfolding packCore
   claims-same = ap (λ (x : Body). x .core .claims) (sym (ready .same))
 
   -- A body is that of a state if each of its four parts is.
   body-is : (running : Bool) (c : S.Core) {service : Mastership} {nodes : List Node} {streams : List Stream} {claims : Claims}
-      → service ≡ packMastership (c .desk .service) → nodes ≡ packNodes (c .desk .events) (c .learned) (c .says) → streams ≡ packStreams (c .wire) → claims ≡ packClaims (c .wire)
+      → service ≡ packMastership (c .desk .service) → nodes ≡ packNodes (c .desk .events) (c .learned) (c .says) → streams ≡ packStreams (c .board) → claims ≡ packClaims (c .board)
       → _≡_ {A = Body} (record { count = b .count; running = running; core = record { service = service; nodes = nodes; streams = streams; claims = claims } })
       (record { count = b .count; running = running; core = packCore c })
   unfolding packCore
@@ -81,11 +81,11 @@ module _ (b : Body) (ready : Ready b) where
     desk-stored d = body-is (b .running) _ refl refl streams-same claims-same
 
     pub telling-stored : (n : ℕ) (v : Telling) → let w = storeTelling n v (b .count) (b .core .streams) (b .core .claims) in
-        withWire (b .running) (w .streams) (w .claims) b ≡ bodyOf (onDevice (tellPart n) .put v (stateOf b history))
+        withBoard (b .running) (w .streams) (w .claims) b ≡ bodyOf (onDevice (tellPart n) .put v (stateOf b history))
     unfolding holdCore storeTelling
     telling-stored n v = body-is (b .running) _ service-same nodes-same refl refl
 
-    pub power-stored : (v : Power) → withWire (v .running) (packStreams (v .wire)) (packClaims (v .wire)) b ≡ bodyOf (onDevice powerPart .put v (stateOf b history))
+    pub power-stored : (v : Power) → withBoard (v .running) (packStreams (v .board)) (packClaims (v .board)) b ≡ bodyOf (onDevice powerPart .put v (stateOf b history))
     power-stored v = body-is (v .running) _ service-same nodes-same refl refl
 
     -- ---- rows
@@ -94,8 +94,8 @@ module _ (b : Body) (ready : Ready b) where
       abbrev j : ℕ
       j = n - 1
 
-      abbrev w : S.Wire
-      w = holdWire (b .count) (b .core .streams) (b .core .claims)
+      abbrev w : S.Board
+      w = holdBoard (b .count) (b .core .streams) (b .core .claims)
 
       abbrev events : List (List S.Mastership)
       events = column eventsAt (b .count) (b .core .nodes)
@@ -137,22 +137,22 @@ module _ (b : Body) (ready : Ready b) where
       pub sent-stored-at : (v : Sent) → withStream n (storeSent v (streamOf b n)) b ≡ bodyOf (sendPart n .put v (stateOf b history))
       unfolding holdCore packClaims
       sent-stored-at v = body-is (b .running) _ service-same nodes-same
-          (in-streams (storeSent v) _ (sent-stored w j v (wide (w .sent) (fits-core .wire .sent-size)) (wide (w .requests) (fits-core .wire .requests-size)))) claims-same
+          (in-streams (storeSent v) _ (sent-stored w j v (wide (w .sent) (fits-core .board .sent-size)) (wide (w .requests) (fits-core .board .requests-size)))) claims-same
 
       pub received-stored-at : (v : Received)
           → withNode n (storeSays v (nodeOf b n)) (withStream n (storeReceived v (streamOf b n)) b) ≡ bodyOf (receivePart n .put v (stateOf b history))
       unfolding holdCore holdDesk packClaims
       received-stored-at v = body-is (b .running) _ service-same
           (in-nodes (storeSays v) _ (says-stored events learned says j v (wide says (fits-core .says-size))))
-          (in-streams (storeReceived v) _ (received-stored w j v (wide (w .responses) (fits-core .wire .responses-size)))) claims-same
+          (in-streams (storeReceived v) _ (received-stored w j v (wide (w .responses) (fits-core .board .responses-size)))) claims-same
 
       pub open-stored-at : (v : Bool) → withStream n (storeOpen v (streamOf b n)) b ≡ bodyOf (onDevice (linkPart n) .put v (stateOf b history))
       unfolding holdCore packClaims
-      open-stored-at v = body-is (b .running) _ service-same nodes-same (in-streams (storeOpen v) _ (open-stored w j v (wide (w .opens) (fits-core .wire .opens-size)))) claims-same
+      open-stored-at v = body-is (b .running) _ service-same nodes-same (in-streams (storeOpen v) _ (open-stored w j v (wide (w .opens) (fits-core .board .opens-size)))) claims-same
 
       pub serving-stored-at : (v : Serving)
           → withLast (record { 0 = v .last }) (withStream n (storeServing v (streamOf b n)) b) ≡ bodyOf (onDevice (servePart n) .put v (stateOf b history))
       unfolding holdCore packClaims
       serving-stored-at v = body-is (b .running) _ service-same nodes-same
-          (in-streams (storeServing v) _ (serving-stored w j v (wide (w .requests) (fits-core .wire .requests-size)) (wide (w .responses) (fits-core .wire .responses-size))))
+          (in-streams (storeServing v) _ (serving-stored w j v (wide (w .requests) (fits-core .board .requests-size)) (wide (w .responses) (fits-core .board .responses-size))))
           (λ i. record { ids = claims-same i .ids; terms = claims-same i .terms; last = record { 0 = v .last } })

@@ -26,11 +26,11 @@ historyAfter count es = stateAfter count es .history
 
 -- The term that the first waiting request of node n carries.
 abbrev pub ownTerm : State → ℕ → ℕ
-ownTerm s n = first noRequest (getD (s .core .wire .requests) (n - 1) []) .term
+ownTerm s n = first noRequest (getD (s .core .board .requests) (n - 1) []) .term
 
 -- The term that the switch holds of node n.
 abbrev pub switchTerm : State → ℕ → ℕ
-switchTerm s n = getD (s .core .wire .terms) (n - 1) 0
+switchTerm s n = getD (s .core .board .terms) (n - 1) 0
 
 -- ---- what is said of a write in the history
 

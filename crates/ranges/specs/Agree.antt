@@ -11,13 +11,13 @@ use borrow.Author.Tests.{lt-ltb, le-ltb}
 use Rattle.rules.specs.Limits.{mostNodes, topTerm, historyLength}
 use Rattle.rules.specs.State as S
 use Rattle.rules.specs.Queues.{before}
-use Rattle.rules.specs.Range.{all, distinctIds, queueFits, mastershipFits, serviceFits, learnedFits, deskFits, streamFits, wireFits, writeFits, coreFits, inRange}
+use Rattle.rules.specs.Range.{all, distinctIds, queueFits, mastershipFits, serviceFits, learnedFits, deskFits, streamFits, boardFits, writeFits, coreFits, inRange}
 use Rattle.laws.specs.InRange.{All, Within}
 use Rattle.laws.specs.Tests.{Is, is-map, _&_, as-is, is-unless, is-le, is-eq, is-ne, is-within, is-all, is-each, is-distinct-ids}
 use Rattle.laws.specs.Lists.{all-with}
 use Rattle.seqs.specs.Columns.{column, column-at, length-column}
 use Rattle.parts.specs.Hold.{holdMastership}
-use Rattle.state.specs.Hold.{eventsAt, learnedAt, saysAt, openAt, sentAt, requestsAt, responsesAt, idAt, termAt, noWrite, holdWire, holdDesk, holdCore, holdHistory, hold}
+use Rattle.state.specs.Hold.{eventsAt, learnedAt, saysAt, openAt, sentAt, requestsAt, responsesAt, idAt, termAt, noWrite, holdBoard, holdDesk, holdCore, holdHistory, hold}
 use Rattle.state.specs.Order.{pastNode, pastStream}
 use Rattle.state.specs.Tidy.{isZero, tidyMastership, tidyNode, blankNode, tidyStream, blankStream, blankId, blankTerm, tidyCore, tidyHistory, stateFits}
 use Rattle.state.specs.declared.Node.{Node}
@@ -93,15 +93,15 @@ module _ (n : ℕ) (running : Bool) (l : List Stream) (claims : Claims) (sized :
   abbrev termOf : ℕ → ℕ
   termOf i = getD (claims .terms) i (record { 0 = 0 }) .0
 
-  abbrev wire : S.Wire
-  wire = holdWire n l claims
+  abbrev board : S.Board
+  board = holdBoard n l claims
 
   -- One stream, of the columns.
   abbrev streamAt : ℕ → Bool
-  streamAt i = streamFits (getD (wire .opens) i false) (getD (wire .sent) i 0) (getD (wire .requests) i []) (getD (wire .responses) i []) (getD (wire .ids) i 0) (getD (wire .terms) i 0)
+  streamAt i = streamFits (getD (board .opens) i false) (getD (board .sent) i 0) (getD (board .requests) i []) (getD (board .responses) i []) (getD (board .ids) i 0) (getD (board .terms) i 0)
 
   stream-at : (i : ℕ) → i < n → streamAt i ≡ streamFits (at i .opened) (at i .sent .0) (requestsAt (at i)) (responsesAt (at i)) (idOf i) (termOf i)
-  unfolding holdWire
+  unfolding holdBoard
   stream-at i h = λ z. streamFits
       (column-at openAt n i l pastStream h z)
       (column-at sentAt n i l pastStream h z)
@@ -114,7 +114,7 @@ module _ (n : ℕ) (running : Bool) (l : List Stream) (claims : Claims) (sized :
   record Streams : Type 0 where
     tidy : All (λ r. T (tidyStream r)) (take n l)
     fit : (i : ℕ) → i < n → T (streamAt i)
-    stopped : All (λ o. T (running || not o)) (wire .opens)
+    stopped : All (λ o. T (running || not o)) (board .opens)
     blank : All (λ r. T (blankStream r)) (drop n l)
     no-ids : All (λ x. T (blankId x)) (drop n (claims .ids))
     no-terms : All (λ x. T (blankTerm x)) (drop n (claims .terms))
@@ -132,7 +132,7 @@ module _ (n : ℕ) (running : Bool) (l : List Stream) (claims : Claims) (sized :
   is-behind i h j = rw (le-ltb i n j) (is-no-stream (at i) (sized-at i h) (idOf i) (termOf i))
 
   streams-there : n ≤ mostNodes → ((i : ℕ) → i < mostNodes → T (streamPlace n running l claims i)) → Streams
-  unfolding holdWire
+  unfolding holdBoard
   streams-there few f =
       let used : (i : ℕ) → i < n → StreamUsed i = λ i j. is-used i (omega arith) j .to (f i (omega arith)) in
       record {
@@ -145,7 +145,7 @@ module _ (n : ℕ) (running : Bool) (l : List Stream) (claims : Claims) (sized :
       }
 
   streams-back : Streams → (i : ℕ) → i < mostNodes → T (streamPlace n running l claims i)
-  unfolding holdWire
+  unfolding holdBoard
   streams-back s i h = go (decLt i n)
     where
       go : Dec (i < n) → T (streamPlace n running l claims i)
@@ -168,8 +168,8 @@ module _ (n : ℕ) (running : Bool) (l : List Stream) (claims : Claims) (sized :
 
   -- ---- the ids
 
-  is-ids : n ≤ mostNodes → Is (idsTest n claims) (T (distinctIds (wire .ids)))
-  unfolding idsTest idTest holdWire
+  is-ids : n ≤ mostNodes → Is (idsTest n claims) (T (distinctIds (board .ids)))
+  unfolding idsTest idTest holdBoard
   is-ids few =
       let held = column idAt n (claims .ids) in
       let count = length-column idAt n (claims .ids) (omega arith) in
@@ -207,7 +207,7 @@ module _ (s : State) (k : Sized s) where
     service : T (serviceFits n (holdMastership (s .core .service)))
     rows : All (NodeFits n nodes (k .nodes) (k .node-rows)) (take n nodes)
     blank-rows : All (λ r. T (blankNode r)) (drop n nodes)
-    wire : Streams n (s .running) streams claims (k .streams) (k .stream-rows) (k .ids) (k .terms)
+    board : Streams n (s .running) streams claims (k .streams) (k .stream-rows) (k .ids) (k .terms)
     ids : T (distinctIds (column idAt n (claims .ids)))
     last : claims .last .0 ≤ topTerm
     tidy-history : T (tidyHistory (s .history))
@@ -218,7 +218,7 @@ module _ (s : State) (k : Sized s) where
   is-history = is-queue (accepted n) historyLength (s .history .items) (k .history) (all-any (s .history .items)) noWrite (s .history .len)
 
   is-test : Is (stateTest s) Facts
-  unfolding stateTest coreTest holdWire
+  unfolding stateTest coreTest holdBoard
   is-test =
       is-map
       (λ t. let c = t .0 .1 in let a = c .0 .0 in record {
@@ -227,13 +227,13 @@ module _ (s : State) (k : Sized s) where
         service = a .0 .1 .1;
         rows = a .1 .0;
         blank-rows = a .1 .1;
-        wire = c .0 .1;
+        board = c .0 .1;
         ids = c .1;
         last = a .0 .0;
         tidy-history = t .1 .0;
         history = t .1 .1;
       })
-      (λ f. ((f .count, ((((f .last, (f .tidy-service, f .service)), (f .rows, f .blank-rows)), f .wire), f .ids)), (f .tidy-history, f .history)))
+      (λ f. ((f .count, ((((f .last, (f .tidy-service, f .service)), (f .rows, f .blank-rows)), f .board), f .ids)), (f .tidy-history, f .history)))
       (is-then (is-within 1 mostNodes n) (λ w. let few : n ≤ mostNodes = w .upper in
       is-le (claims .last .0) topTerm & is-service (s .core .service) (k .service) n & is-nodes n nodes (k .nodes) (k .node-rows)
       & is-streams n (s .running) streams claims (k .streams) (k .stream-rows) (k .ids) (k .terms) few
@@ -243,10 +243,10 @@ module _ (s : State) (k : Sized s) where
   abbrev At : ℕ → Type 0
   At i = T (streamAt n (s .running) streams claims (k .streams) (k .stream-rows) (k .ids) (k .terms) i)
 
-  is-wire : n ≤ mostNodes → Is (wireFits n (s .running) (holdWire n streams claims))
+  is-board : n ≤ mostNodes → Is (boardFits n (s .running) (holdBoard n streams claims))
       (((((i : ℕ) → i < n → At i) × T (distinctIds (column idAt n (claims .ids)))) × All (λ o. T (s .running || not o)) opens) × (claims .last .0 ≤ topTerm))
-  unfolding wireFits holdWire
-  is-wire few =
+  unfolding boardFits holdBoard
+  is-board few =
       let a = k .streams in
       let b = k .ids in
       let c = k .terms in
@@ -275,7 +275,7 @@ module _ (s : State) (k : Sized s) where
       & sure (is-eq (length (column learnedAt n nodes)) n) (length-column learnedAt n nodes (omega arith))
       & as-is (all (learnedFits n) (column learnedAt n nodes))
       & sure (is-eq (length (column saysAt n nodes)) n) (length-column saysAt n nodes (omega arith))
-      & is-wire few)
+      & is-board few)
 
   abbrev tidyFacts : Type 0
   tidyFacts = (((((T (tidyMastership (s .core .service)) × T (all tidyNode (take n nodes))) × T (all blankNode (drop n nodes))) × All (λ r. T (tidyStream r)) (take n streams))
@@ -288,7 +288,7 @@ module _ (s : State) (k : Sized s) where
       & is-all (λ x. as-is (blankId x)) (drop n (claims .ids)) & is-all (λ x. as-is (blankTerm x)) (drop n (claims .terms))
 
   is-state : Is (stateFits s) Facts
-  unfolding stateFits inRange hold holdWire
+  unfolding stateFits inRange hold holdBoard
   is-state =
       let w = holdHistory (s .history) in
       let columns = is-nodes-columns n nodes (k .nodes) (k .node-rows) in
@@ -303,13 +303,13 @@ module _ (s : State) (k : Sized s) where
         service = c .0 .0 .0;
         rows = rows .0;
         blank-rows = rows .1;
-        wire = record { tidy = y .0 .0 .0 .1; fit = c .1 .0 .0 .0; stopped = c .1 .0 .1; blank = y .0 .0 .1; no-ids = y .0 .1; no-terms = y .1 };
+        board = record { tidy = y .0 .0 .0 .1; fit = c .1 .0 .0 .0; stopped = c .1 .0 .1; blank = y .0 .0 .1; no-ids = y .0 .1; no-terms = y .1 };
         ids = c .1 .0 .0 .1;
         last = c .1 .1;
         tidy-history = t .0 .1;
         history = listed .from (t .1 .0 .1, t .1 .1);
       })
-      (λ f. let m = four .to (columns .from (f .rows, f .blank-rows)) in let q = f .wire in let h = listed .to (f .history) in (
+      (λ f. let m = four .to (columns .from (f .rows, f .blank-rows)) in let q = f .board in let h = listed .to (f .history) in (
         (((((((f .tidy-service, m .0 .0 .0), m .1), q .tidy), q .blank), q .no-ids), q .no-terms), f .tidy-history),
         (((f .count, (((f .service, m .0 .0 .1), m .0 .1), (((q .fit, f .ids), q .stopped), f .last))), h .0), h .1),
       ))

@@ -24,5 +24,5 @@ pub record Report : Type 0 where
 unfoldable pub openReport : State → Report
 openReport s =
     cond (inRange s)
-    (record { code = stepDone; word = wordOf (s .core .wire .opens); count = countOf (s .core .wire .opens) })
+    (record { code = stepDone; word = wordOf (s .core .board .opens); count = countOf (s .core .board .opens) })
     (record { code = outOfRange; word = 0; count = 0 })

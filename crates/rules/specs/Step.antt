@@ -69,7 +69,7 @@ fresh count = record {
     desk = record { service = blank; events = replicate count [] };
     learned = replicate count blank;
     says = replicate count false;
-    wire = record {
+    board = record {
       opens = replicate count false;
       sent = replicate count 0;
       requests = replicate count [];

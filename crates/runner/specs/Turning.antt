@@ -17,11 +17,11 @@ use Rattle.parts.specs.declared.Mastership.{Mastership}
 use Rattle.state.specs.Stores.{storeInbox}
 use Rattle.state.specs.Reads.{inboxOf}
 use Rattle.state.specs.declared.Node.{Node}
-use Rattle.state.specs.declared.Wire.{Wire}
+use Rattle.state.specs.declared.Board.{Board}
 use Rattle.state.specs.declared.Body.{Body}
 use Rattle.state.specs.declared.Table.{Table}
 use Rattle.moves.specs.Bodies.{stateOf, Ready, Leaves}
-use Rattle.moves.specs.Sets.{withDesk, withNode, withWire}
+use Rattle.moves.specs.Sets.{withDesk, withNode, withBoard}
 use Rattle.moves.specs.Gets.{nodeOf, streamOf}
 use Rattle.moves.specs.Stored.{few, in-order-nodes}
 use Rattle.moves.specs.Acts.{plain}
@@ -32,12 +32,12 @@ use Rattle.asks.specs.Classes.{atRow, atDesk, runsAfter}
 use Rattle.asks.specs.Kinds.{RowKind, DeskKind, row-at, desk-at}
 use Rattle.turns.specs.At.{At}
 use Rattle.turns.specs.declared.Row.{Row}
-use Rattle.turns.specs.Turns.{rowAnswer, rowAfter, deskAnswer, serviceAfter, posting, wireAnswer, wireAfter}
-use Rattle.turns.specs.Asks.{RowAsks, RowGoes, DeskGoes, WireAsks, WireGoes}
+use Rattle.turns.specs.Turns.{rowAnswer, rowAfter, deskAnswer, serviceAfter, posting, boardAnswer, boardAfter}
+use Rattle.turns.specs.Asks.{RowAsks, RowGoes, DeskGoes, BoardAsks, BoardGoes}
 use Rattle.turns.specs.Called.{askOf, refused-leaves}
 use Rattle.turns.specs.RowTurns.{row-asks, row-answered, row-goes, rowBody, rowMoved, learn-leaves, row-leaves, row-entry}
 use Rattle.turns.specs.DeskTurns.{desk-answered, desk-goes, desk-written, desk-room, desk-posts, desk-quiet}
-use Rattle.turns.specs.WireTurns.{wire-asks, wire-answered, wire-goes, wire-leaves}
+use Rattle.turns.specs.BoardTurns.{board-asks, board-answered, board-goes, board-leaves}
 use Rattle.lists.specs.EventList.{recordCount, recordAt, historyBytes}
 use Rattle.lists.specs.declared.Trailer.{Trailer}
 use Rattle.runner.specs.Tables.{bodyIn, pending, settled}
@@ -49,8 +49,8 @@ pub data Coded (table : Table) (e : Event) (writes code : ℕ) : Type 0 where
       → code ≡ rowAnswer (askOf (bodyIn table) (e .kind) (e .node)) writes (nodeOf (bodyIn table) (e .node)) (streamOf (bodyIn table) (e .node)) (table .claims) → Coded table e writes code
   of-desk : atRow (askOf (bodyIn table) (e .kind) (e .node)) ≡ false → atDesk (askOf (bodyIn table) (e .kind) (e .node)) ≡ true
       → code ≡ deskAnswer (askOf (bodyIn table) (e .kind) (e .node)) (table .service) (table .nodes) → Coded table e writes code
-  of-wire : atRow (askOf (bodyIn table) (e .kind) (e .node)) ≡ false → atDesk (askOf (bodyIn table) (e .kind) (e .node)) ≡ false
-      → code ≡ wireAnswer (askOf (bodyIn table) (e .kind) (e .node)) (table .streams) (table .claims) → Coded table e writes code
+  of-board : atRow (askOf (bodyIn table) (e .kind) (e .node)) ≡ false → atDesk (askOf (bodyIn table) (e .kind) (e .node)) ≡ false
+      → code ≡ boardAnswer (askOf (bodyIn table) (e .kind) (e .node)) (table .streams) (table .claims) → Coded table e writes code
 
 not-both : {x : Bool} → x ≡ true → x ≡ false → ⊥
 not-both e f = let w : _≡_ {A = ℕ} 0 1 = cc in absurd (omega arith)
@@ -60,19 +60,19 @@ module _ (table : Table) (e : Event) (writes code : ℕ) where
       → code ≡ rowAnswer (askOf (bodyIn table) (e .kind) (e .node)) writes (nodeOf (bodyIn table) (e .node)) (streamOf (bodyIn table) (e .node)) (table .claims)
   row-coded (of-row r c) h = c
   row-coded (of-desk r d c) h = absurd (not-both h r)
-  row-coded (of-wire r d c) h = absurd (not-both h r)
+  row-coded (of-board r d c) h = absurd (not-both h r)
 
   desk-coded : Coded table e writes code → atRow (askOf (bodyIn table) (e .kind) (e .node)) ≡ false → atDesk (askOf (bodyIn table) (e .kind) (e .node)) ≡ true
       → code ≡ deskAnswer (askOf (bodyIn table) (e .kind) (e .node)) (table .service) (table .nodes)
   desk-coded (of-row r c) h k = absurd (not-both r h)
   desk-coded (of-desk r d c) h k = c
-  desk-coded (of-wire r d c) h k = absurd (not-both k d)
+  desk-coded (of-board r d c) h k = absurd (not-both k d)
 
-  wire-coded : Coded table e writes code → atRow (askOf (bodyIn table) (e .kind) (e .node)) ≡ false → atDesk (askOf (bodyIn table) (e .kind) (e .node)) ≡ false
-      → code ≡ wireAnswer (askOf (bodyIn table) (e .kind) (e .node)) (table .streams) (table .claims)
-  wire-coded (of-row r c) h k = absurd (not-both r h)
-  wire-coded (of-desk r d c) h k = absurd (not-both d k)
-  wire-coded (of-wire r d c) h k = c
+  board-coded : Coded table e writes code → atRow (askOf (bodyIn table) (e .kind) (e .node)) ≡ false → atDesk (askOf (bodyIn table) (e .kind) (e .node)) ≡ false
+      → code ≡ boardAnswer (askOf (bodyIn table) (e .kind) (e .node)) (table .streams) (table .claims)
+  board-coded (of-row r c) h k = absurd (not-both r h)
+  board-coded (of-desk r d c) h k = absurd (not-both d k)
+  board-coded (of-board r d c) h k = c
 
 -- A turn that reads the record i: every node has heard, and the loop holds the run so far.
 pub record Turn (list : List ℕ) (t : Trailer) (out₀ : List ℕ) (i n : ℕ) (out : List ℕ) (table : Table) (told : ℕ) (e : Event) : Type 0 where
@@ -106,7 +106,7 @@ module _ {list : List ℕ} {t : Trailer} {out₀ : List ℕ} {i n : ℕ} {out : 
       c ∙ ap (λ (j : ℕ). rowAnswer (askOf b (e .kind) (e .node)) j (nodeOf b (e .node)) (streamOf b (e .node)) (table .claims)) (sym long)
       ∙ row-answered b (e .node) (at-node (k .1)) history (e .kind) (k .0)
   answered code (of-desk r d c) history long = let k = desk-at (askOf b (e .kind) (e .node)) d in c ∙ desk-answered b (e .node) (at-node (k .1)) history (e .kind) (k .0)
-  answered code (of-wire r d c) history long = c ∙ wire-answered b in-range (e .node) (e .kind) r d history
+  answered code (of-board r d c) history long = c ∙ board-answered b in-range (e .node) (e .kind) r d history
 
   pub refused-way : (code : ℕ) → Coded table e n code → code ≢ stepDone → Running list out₀ (i + 1) (set out i code) (bodyIn table) n
   refused-way code c h = quietly b code code refl (λ history long. refused-leaves b in-range (e .node) history (kindOf (e .kind)) code (answered code c history long) h)
@@ -198,21 +198,21 @@ module _ {list : List ℕ} {t : Trailer} {out₀ : List ℕ} {i n : ℕ} {out : 
   -- ---- the switch and all streams
 
   module _ (row : atRow (askOf (bodyIn table) (e .kind) (e .node)) ≡ false) (desk : atDesk (askOf (bodyIn table) (e .kind) (e .node)) ≡ false) where
-    pub asks-wire : WireAsks (askOf (bodyIn table) (e .kind) (e .node)) (table .streams) (table .claims)
-    asks-wire = wire-asks b in-range (e .node) (e .kind) row desk
+    pub asks-board : BoardAsks (askOf (bodyIn table) (e .kind) (e .node)) (table .streams) (table .claims)
+    asks-board = board-asks b in-range (e .node) (e .kind) row desk
 
   module _ (row : atRow (askOf (bodyIn table) (e .kind) (e .node)) ≡ false) (desk : atDesk (askOf (bodyIn table) (e .kind) (e .node)) ≡ false) (code : ℕ) (c : Coded table e n code)
       (z : code ≡ stepDone) where
-    wire-done : wireAnswer (askOf b (e .kind) (e .node)) (table .streams) (table .claims) ≡ stepDone
-    wire-done = sym (wire-coded table e n code c row desk) ∙ z
+    board-done : boardAnswer (askOf b (e .kind) (e .node)) (table .streams) (table .claims) ≡ stepDone
+    board-done = sym (board-coded table e n code c row desk) ∙ z
 
-    pub goes-wire : WireGoes (askOf (bodyIn table) (e .kind) (e .node)) (table .streams) (table .claims)
-    goes-wire = wire-goes b in-range (e .node) (e .kind) row desk wire-done
+    pub goes-board : BoardGoes (askOf (bodyIn table) (e .kind) (e .node)) (table .streams) (table .claims)
+    goes-board = board-goes b in-range (e .node) (e .kind) row desk board-done
 
-    pub wire-way : (x : Wire) → x ≡ wireAfter (askOf (bodyIn table) (e .kind) (e .node)) (table .streams) (table .claims)
-        → Running list out₀ (i + 1) (set out i code) (withWire (runsAfter (askOf (bodyIn table) (e .kind) (e .node))) (x .streams) (x .claims) (bodyIn table)) n
-    wire-way x f = quietly (withWire (runsAfter (askOf b (e .kind) (e .node))) (x .streams) (x .claims) b) code stepDone z (λ history long.
-        wire-leaves b in-range (e .node) (e .kind) row desk wire-done history x f)
+    pub board-way : (x : Board) → x ≡ boardAfter (askOf (bodyIn table) (e .kind) (e .node)) (table .streams) (table .claims)
+        → Running list out₀ (i + 1) (set out i code) (withBoard (runsAfter (askOf (bodyIn table) (e .kind) (e .node))) (x .streams) (x .claims) (bodyIn table)) n
+    board-way x f = quietly (withBoard (runsAfter (askOf b (e .kind) (e .node))) (x .streams) (x .claims) b) code stepDone z (λ history long.
+        board-leaves b in-range (e .node) (e .kind) row desk board-done history x f)
 
 -- The same body, said otherwise.
 pub same-body : {list out₀ : List ℕ} {i n : ℕ} {out : List ℕ} {x y : Body} → x ≡ y → Running list out₀ i out y n → Running list out₀ i out x n

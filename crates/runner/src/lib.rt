@@ -96,7 +96,7 @@ fn run_records(list: &[u8], trailer: Trailer, out: &mut [u8]) -> u16
         } else {
             let streams = table.streams;
             let claims = table.claims;
-            turns::wire_code(ask, streams, claims)
+            turns::board_code(ask, streams, claims)
         };
         out[i] = code;
         i += 1;
@@ -133,9 +133,9 @@ fn run_records(list: &[u8], trailer: Trailer, out: &mut [u8]) -> u16
         }
         let streams = table.streams;
         let claims = table.claims;
-        let wire = turns::wire_after(ask, streams, claims);
-        let next = wire.streams;
-        let held = wire.claims;
+        let board = turns::board_after(ask, streams, claims);
+        let next = board.streams;
+        let held = board.claims;
         table.streams = next;
         table.claims = held;
         table.running = asks::runs_after(ask);

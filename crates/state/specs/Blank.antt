@@ -23,7 +23,7 @@ blank-core count = λ j. record {
   service = packMastership S.blank;
   nodes = sym (table-ext mostNodes (λ i. packNode [] S.blank false) (nodeRow (replicate count []) (replicate count S.blank) (replicate count false))
       (λ i k. packNode (same count [] i k) (same count S.blank i k) (same count false i k))) j;
-  streams = sym (table-ext mostNodes (λ i. packStream false 0 [] []) (streamRow (fresh count .core .wire))
+  streams = sym (table-ext mostNodes (λ i. packStream false 0 [] []) (streamRow (fresh count .core .board))
       (λ i k. packStream (same count false i k) (same count 0 i k) (same count [] i k) (same count [] i k))) j;
   claims = record {
     ids = sym (table-ext mostNodes (idRow []) (idRow (replicate count 0)) (λ i k. record { 0 = same count 0 i k })) j;

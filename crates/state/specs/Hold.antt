@@ -52,8 +52,8 @@ termAt t = t .0
 unfoldable pub holdDesk : ℕ → Mastership → List Node → S.Desk
 holdDesk count service nodes = record { service = holdMastership service; events = column eventsAt count nodes }
 
-unfoldable pub holdWire : ℕ → List Stream → Claims → S.Wire
-holdWire count streams claims = record {
+unfoldable pub holdBoard : ℕ → List Stream → Claims → S.Board
+holdBoard count streams claims = record {
   opens = column openAt count streams;
   sent = column sentAt count streams;
   requests = column requestsAt count streams;
@@ -68,7 +68,7 @@ holdCore count c = record {
   desk = holdDesk count (c .service) (c .nodes);
   learned = column learnedAt count (c .nodes);
   says = column saysAt count (c .nodes);
-  wire = holdWire count (c .streams) (c .claims);
+  board = holdBoard count (c .streams) (c .claims);
 }
 
 abbrev pub holdWrite : Write → S.Write
@@ -101,13 +101,13 @@ packStream isOpen sent requests responses = record {
 abbrev pub nodeRow : List (List S.Mastership) → List S.Mastership → List Bool → ℕ → Node
 nodeRow events learned says i = packNode (getD events i []) (getD learned i S.blank) (getD says i false)
 
-abbrev pub streamRow : S.Wire → ℕ → Stream
+abbrev pub streamRow : S.Board → ℕ → Stream
 streamRow w i = packStream (getD (w .opens) i false) (getD (w .sent) i 0) (getD (w .requests) i []) (getD (w .responses) i [])
 
 unfoldable pub packNodes : List (List S.Mastership) → List S.Mastership → List Bool → List Node
 packNodes events learned says = table mostNodes (nodeRow events learned says)
 
-unfoldable pub packStreams : S.Wire → List Stream
+unfoldable pub packStreams : S.Board → List Stream
 packStreams w = table mostNodes (streamRow w)
 
 abbrev pub idRow : List ℕ → ℕ → ElectionId
@@ -116,7 +116,7 @@ idRow ids i = record { 0 = getD ids i 0 }
 abbrev pub termRow : List ℕ → ℕ → Term
 termRow terms i = record { 0 = getD terms i 0 }
 
-unfoldable pub packClaims : S.Wire → Claims
+unfoldable pub packClaims : S.Board → Claims
 packClaims w = record {
   ids = table mostNodes (idRow (w .ids));
   terms = table mostNodes (termRow (w .terms));
@@ -127,8 +127,8 @@ unfoldable pub packCore : S.Core → Core
 packCore c = record {
   service = packMastership (c .desk .service);
   nodes = packNodes (c .desk .events) (c .learned) (c .says);
-  streams = packStreams (c .wire);
-  claims = packClaims (c .wire);
+  streams = packStreams (c .board);
+  claims = packClaims (c .board);
 }
 
 abbrev pub packWrite : S.Write → Write

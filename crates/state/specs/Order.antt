@@ -8,7 +8,7 @@ use Rattle.rules.specs.Limits.{mostNodes}
 use Rattle.seqs.specs.Columns.{column}
 use Rattle.parts.specs.Hold.{pastMastership}
 use Rattle.parts.specs.Ordered.{OrderedMastership, OrderedEvents, OrderedRequests, OrderedResponses}
-use Rattle.state.specs.Hold.{eventsAt, learnedAt, saysAt, holdWire, packNodes, packStreams, packClaims}
+use Rattle.state.specs.Hold.{eventsAt, learnedAt, saysAt, holdBoard, packNodes, packStreams, packClaims}
 use Rattle.state.specs.declared.Node.{Node}
 use Rattle.state.specs.declared.Stream.{Stream}
 use Rattle.state.specs.declared.Claims.{Claims}
@@ -34,8 +34,8 @@ pub record OrderedNodes (count : ℕ) (nodes : List Node) : Type 0 where
   pub rows : (i : ℕ) → i < count → OrderedNode (getD nodes i pastNode)
   pub same : packNodes (column eventsAt count nodes) (column learnedAt count nodes) (column saysAt count nodes) ≡ nodes
 
-pub record OrderedWire (count : ℕ) (streams : List Stream) (claims : Claims) : Type 0 where
+pub record OrderedBoard (count : ℕ) (streams : List Stream) (claims : Claims) : Type 0 where
   pub few : count ≤ mostNodes
   pub rows : (i : ℕ) → i < count → OrderedStream (getD streams i pastStream)
-  pub streams-same : packStreams (holdWire count streams claims) ≡ streams
-  pub claims-same : packClaims (holdWire count streams claims) ≡ claims
+  pub streams-same : packStreams (holdBoard count streams claims) ≡ streams
+  pub claims-same : packClaims (holdBoard count streams claims) ≡ claims

@@ -7,7 +7,7 @@ use Rattle.rules.specs.Part.{Out, refuse, done}
 use Rattle.rules.specs.Parts.{Inbox, Sender, Receiver, Linked, Told, Served, Power}
 use Rattle.seqs.specs.Columns.{column}
 use Rattle.parts.specs.Hold.{holdMastership, holdEvents, holdRequests, holdResponses}
-use Rattle.state.specs.Hold.{holdWire, idAt, termAt}
+use Rattle.state.specs.Hold.{holdBoard, idAt, termAt}
 use Rattle.state.specs.declared.Node.{Node}
 use Rattle.state.specs.declared.Stream.{Stream}
 use Rattle.state.specs.declared.Claims.{Claims}
@@ -45,7 +45,7 @@ linkedOf running s = record { running = running; isOpen = s .opened }
 
 -- Of all streams, the columns; of node n, its own row.
 abbrev pub toldOf : ℕ → ℕ → Bool → List Stream → Claims → Told
-toldOf count n running streams claims = let w = holdWire count streams claims in record {
+toldOf count n running streams claims = let w = holdBoard count streams claims in record {
   running = running;
   opens = w .opens;
   sent = getD (w .sent) (n - 1) 0;
@@ -68,4 +68,4 @@ servedOf count n running s claims writes = record {
 }
 
 abbrev pub powerOf : ℕ → Bool → List Stream → Claims → Power
-powerOf count running streams claims = record { running = running; wire = holdWire count streams claims }
+powerOf count running streams claims = record { running = running; board = holdBoard count streams claims }

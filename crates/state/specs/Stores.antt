@@ -6,11 +6,11 @@ use Rattle.rules.specs.State as S
 use Rattle.rules.specs.Parts.{Inbox, Sent, Received, Telling, Serving, tellPart}
 use Rattle.seqs.specs.Columns.{column}
 use Rattle.parts.specs.Hold.{packMastership, packEvents, packRequests, packResponses}
-use Rattle.state.specs.Hold.{learnedAt, saysAt, holdWire, packNodes, packStreams, packClaims}
+use Rattle.state.specs.Hold.{learnedAt, saysAt, holdBoard, packNodes, packStreams, packClaims}
 use Rattle.state.specs.declared.Node.{Node}
 use Rattle.state.specs.declared.Stream.{Stream}
 use Rattle.state.specs.declared.Claims.{Claims}
-use Rattle.state.specs.declared.Wire.{Wire}
+use Rattle.state.specs.declared.Board.{Board}
 
 -- 1, 2: all event queues anew
 abbrev pub storeEvents : List (List S.Mastership) → ℕ → List Node → List Node
@@ -35,13 +35,13 @@ storeReceived w s = record { opened = s .opened; sent = s .sent; requests = s .r
 abbrev pub storeOpen : Bool → Stream → Stream
 storeOpen w s = record { opened = w; sent = s .sent; requests = s .requests; responses = s .responses }
 
--- the wire, whole
-abbrev pub packWire : S.Wire → Wire
-packWire w = record { streams = packStreams w; claims = packClaims w }
+-- the board, whole
+abbrev pub packBoard : S.Board → Board
+packBoard w = record { streams = packStreams w; claims = packClaims w }
 
 -- 9, 10
-unfoldable pub storeTelling : ℕ → Telling → ℕ → List Stream → Claims → Wire
-storeTelling n w count streams claims = packWire (tellPart n .put w (record { running = true; history = []; wire = holdWire count streams claims }) .wire)
+unfoldable pub storeTelling : ℕ → Telling → ℕ → List Stream → Claims → Board
+storeTelling n w count streams claims = packBoard (tellPart n .put w (record { running = true; history = []; board = holdBoard count streams claims }) .board)
 
 -- 11
 abbrev pub storeServing : Serving → Stream → Stream

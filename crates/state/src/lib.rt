@@ -58,8 +58,8 @@ pub struct State {
     pub history: History,
 }
 
-// The streams and what the switch holds of their nodes: what Close, Handle update and Shutdown write.
-pub struct Wire {
+// The switch's board, the streams and what it holds of their nodes: what Close, Handle update and Shutdown write.
+pub struct Board {
     pub streams: [Stream; 8],
     pub claims: Claims,
 }

@@ -15,7 +15,7 @@ use Rattle.rules.specs.Open.{openReport, wordOf, countOf}
 use Rattle.laws.specs.RangeTest.{range-sound, range-complete}
 use Rattle.laws.specs.Steps.{step-keeps}
 use Rattle.seqs.specs.Columns.{column}
-use Rattle.state.specs.Hold.{openAt, packHistory, packCore, holdHistory, holdCore, holdWire, hold, represent}
+use Rattle.state.specs.Hold.{openAt, packHistory, packCore, holdHistory, holdCore, holdBoard, hold, represent}
 use Rattle.state.specs.Tidy.{tidyCore, tidyHistory, stateFits}
 use Rattle.state.specs.declared.State.{State}
 use Rattle.state.specs.declared.History.{History}
@@ -47,7 +47,7 @@ module _ (s : State) (fits : stateFits s ≡ true) where
   few-nodes = range-sound (hold s) held-fits .count .upper
 
   pub reports : (r : Report) → r ≡ record { code = 0; word = wordOf (column openAt (s .count) (s .core .streams)); count = countOf (column openAt (s .count) (s .core .streams)) } → r ≡ reported s
-  unfolding reported openReport hold holdCore holdWire
+  unfolding reported openReport hold holdCore holdBoard
   reports r e = simp (fits, held-range) e
 
   module _ (same : represent (hold s) ≡ s) where

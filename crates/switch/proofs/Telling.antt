@@ -57,7 +57,7 @@ tell-at k ids (o ∷ os) [] i n = absurd (omega arith)
 tell-at k ids (o ∷ os) (q ∷ qs) zero n = rw (add-zero k)
 tell-at k ids (o ∷ os) (q ∷ qs) (suc i) n = rw (add-suc k i, ← suc-add k i) (tell-at (suc k) ids os qs i (let e : suc (length os) ≡ suc (length qs) = n in omega arith))
 
-abbrev pub withResponses : List (List S.Response) → S.Wire → S.Wire
+abbrev pub withResponses : List (List S.Response) → S.Board → S.Board
 withResponses responses w = record {
   opens = w .opens;
   sent = w .sent;
@@ -68,7 +68,7 @@ withResponses responses w = record {
   last = w .last;
 }
 
-module _ (w : S.Wire) (n : length (w .opens) ≡ length (w .responses)) (roomy : roomOpen (w .opens) (w .responses) ≡ true) where
+module _ (w : S.Board) (n : length (w .opens) ≡ length (w .responses)) (roomy : roomOpen (w .opens) (w .responses) ≡ true) where
   row-told : (i : ℕ) (b : Bool) → getD (w .opens) i false ≡ b
       → cond b (told (packResponse (news (w .ids) (i + 1))) (streamRow w i)) (streamRow w i)
       ≡ packStream (getD (w .opens) i false) (getD (w .sent) i 0) (getD (w .requests) i []) (cond b (push (news (w .ids) (i + 1)) (getD (w .responses) i [])) (getD (w .responses) i []))

@@ -8,17 +8,17 @@ use Rattle.rules.specs.Codes.{stepDone}
 use Rattle.rules.specs.Limits.{queueLength}
 use Rattle.rules.specs.Rules.{closeRule, handleUpdateRule}
 use Rattle.parts.specs.declared.Mastership.{Mastership}
-use Rattle.state.specs.Order.{OrderedNode, OrderedStream, OrderedWire}
+use Rattle.state.specs.Order.{OrderedNode, OrderedStream, OrderedBoard}
 use Rattle.state.specs.declared.Node.{Node}
 use Rattle.state.specs.declared.Stream.{Stream}
 use Rattle.state.specs.declared.Claims.{Claims}
 use Rattle.service.specs.Asks.{Joins, Leaving}
 use Rattle.nodes.specs.Waiting.{Waits}
 use Rattle.streams.specs.Asks.{IsNode}
-use Rattle.switch.specs.Asks.{AtWire, Tells}
+use Rattle.switch.specs.Asks.{AtBoard, Tells}
 use Rattle.writing.specs.Asks.{CanWrite}
 use Rattle.asks.specs.Classes.{barrier}
-use Rattle.asks.specs.Kinds.{RowKind, DeskKind, WireKind}
+use Rattle.asks.specs.Kinds.{RowKind, DeskKind, BoardKind}
 use Rattle.asks.specs.declared.Ask.{Ask}
 
 -- A node and its stream, both in order.
@@ -42,14 +42,14 @@ pub record DeskGoes (a : Ask) (service : Mastership) : Type 0 where
   pub leaving : a .kind ≡ 2 → Leaving service (a .number)
 
 -- The streams and what the switch holds, in order; one of the nodes where the kind calls for one.
-pub record WireAsks (a : Ask) (streams : List Stream) (claims : Claims) : Type 0 where
-  pub wire : OrderedWire (a .count) streams claims
-  pub kind : barrier a ≡ stepDone → WireKind (a .kind)
-  pub within : barrier a ≡ stepDone → (a .kind ≡ 9) ⊎ (a .kind ≡ 10) → AtWire (a .count) (a .number) streams claims
+pub record BoardAsks (a : Ask) (streams : List Stream) (claims : Claims) : Type 0 where
+  pub board : OrderedBoard (a .count) streams claims
+  pub kind : barrier a ≡ stepDone → BoardKind (a .kind)
+  pub within : barrier a ≡ stepDone → (a .kind ≡ 9) ⊎ (a .kind ≡ 10) → AtBoard (a .count) (a .number) streams claims
 
 -- The same, where the answer is 0.
-pub record WireGoes (a : Ask) (streams : List Stream) (claims : Claims) : Type 0 where
-  pub wire : OrderedWire (a .count) streams claims
-  pub kind : WireKind (a .kind)
+pub record BoardGoes (a : Ask) (streams : List Stream) (claims : Claims) : Type 0 where
+  pub board : OrderedBoard (a .count) streams claims
+  pub kind : BoardKind (a .kind)
   pub closes : a .kind ≡ 9 → Tells closeRule (a .count) (a .number) streams claims
   pub updates : a .kind ≡ 10 → Tells handleUpdateRule (a .count) (a .number) streams claims

@@ -20,7 +20,7 @@ use Rattle.laws.specs.Lists.{queue-first}
 use Rattle.laws.specs.Decide.{Passes}
 use Rattle.seqs.specs.Columns.{column, column-at}
 use Rattle.parts.specs.Hold.{holdResponses}
-use Rattle.state.specs.Hold.{responsesAt, holdCore, holdWire}
+use Rattle.state.specs.Hold.{responsesAt, holdCore, holdBoard}
 use Rattle.state.specs.Order.{OrderedNode, OrderedStream, pastNode, pastStream}
 use Rattle.state.specs.Reads.{answerOf, inboxOf, senderOf, receiverOf}
 use Rattle.state.specs.Stores.{storeInbox, storeSent, storeSays, storeReceived}
@@ -32,7 +32,7 @@ use Rattle.nodes.specs.Waiting.{sendAnswer, updateWaits, writeWaits, Waits, rec
 use Rattle.moves.specs.Bodies.{stateOf, Leaves}
 use Rattle.moves.specs.Sets.{withDesk, withNode, withStream}
 use Rattle.moves.specs.Gets.{nodeOf, streamOf, inbox-read, sender-read, receiver-read}
-use Rattle.moves.specs.Stored.{fits-core, in-order-nodes, in-order-wire, inbox-stored-at, sent-stored-at, received-stored-at}
+use Rattle.moves.specs.Stored.{fits-core, in-order-nodes, in-order-board, inbox-stored-at, sent-stored-at, received-stored-at}
 use Rattle.moves.specs.Acts.{plain, done-at, passes}
 use Rattle.turns.specs.At.{At, row-in, leaves-as}
 
@@ -41,7 +41,7 @@ module _ (b : Body) (n : ℕ) (a : At b n) where
   node-ordered = in-order-nodes b (a .ready) .rows (n - 1) (row-in b n a)
 
   pub stream-ordered : OrderedStream (streamOf b n)
-  stream-ordered = in-order-wire b (a .ready) .rows (n - 1) (row-in b n a)
+  stream-ordered = in-order-board b (a .ready) .rows (n - 1) (row-in b n a)
 
   module _ (history : List S.Write) where
     -- ---- 3 Learn
@@ -120,7 +120,7 @@ module _ (b : Body) (n : ℕ) (a : At b n) where
   waits-not-empty o false u h = refl
 
   pub waits : updateWaits (streamOf b n) ≡ true → Waits (streamOf b n)
-  unfolding holdCore holdWire
+  unfolding holdCore holdBoard
   waits h =
       let q = holdResponses (streamOf b n .responses) in
       let some = waits-not-empty (streamOf b n .opened) (empty q) (isUpdate (first R.noResponse q .message)) h in
@@ -129,5 +129,5 @@ module _ (b : Body) (n : ℕ) (a : At b n) where
       record {
         ordered = stream-ordered b n a;
         some = some;
-        small = small (r .message) (r .status) (r .id) (queue-first ResponseFits R.noResponse q (rw some tt) (rw e at (fits-core b (a .ready) .wire .streams (n - 1) .responses-fit)));
+        small = small (r .message) (r .status) (r .id) (queue-first ResponseFits R.noResponse q (rw some tt) (rw e at (fits-core b (a .ready) .board .streams (n - 1) .responses-fit)));
       }

@@ -9,13 +9,13 @@ use Rattle.rules.specs.Part.{decide}
 use Rattle.rules.specs.Rules.{joinRule, leaveRule, joined, left, handsOver, learnRule, sendUpdateRule, receiveUpdateRule, sendWriteRule, receiveWriteRule, connectRule, closeRule, handleUpdateRule, handleWriteRule, shutdownRule, startupRule, cleared}
 use Rattle.parts.specs.Hold.{holdMastership, packMastership}
 use Rattle.parts.specs.declared.Mastership.{Mastership}
-use Rattle.state.specs.Hold.{holdDesk, holdWire}
+use Rattle.state.specs.Hold.{holdDesk, holdBoard}
 use Rattle.state.specs.Reads.{answerOf, inboxOf, senderOf, receiverOf, linkedOf, toldOf, servedOf, powerOf}
-use Rattle.state.specs.Stores.{storeSent, storeOpen, storeTelling, packWire}
+use Rattle.state.specs.Stores.{storeSent, storeOpen, storeTelling, packBoard}
 use Rattle.state.specs.declared.Node.{Node}
 use Rattle.state.specs.declared.Stream.{Stream}
 use Rattle.state.specs.declared.Claims.{Claims}
-use Rattle.state.specs.declared.Wire.{Wire}
+use Rattle.state.specs.declared.Board.{Board}
 use Rattle.nodes.specs.Waiting.{received}
 use Rattle.writing.specs.Handled.{storeHandled}
 use Rattle.writing.specs.declared.Handled.{Handled}
@@ -52,8 +52,8 @@ switchAnswer a streams claims =
     ∷ answerOf (decide shutdownRule (powerOf (a .count) (a .running) streams claims)) ∷ []) (a .kind - 9)
     (answerOf (decide startupRule (powerOf (a .count) (a .running) streams claims)))
 
-abbrev pub wireAnswer : Ask → List Stream → Claims → ℕ
-wireAnswer a streams claims = cond (eqb (barrier a) stepDone) (switchAnswer a streams claims) (barrier a)
+abbrev pub boardAnswer : Ask → List Stream → Claims → ℕ
+boardAnswer a streams claims = cond (eqb (barrier a) stepDone) (switchAnswer a streams claims) (barrier a)
 
 -- ---- what is left
 
@@ -99,11 +99,11 @@ serviceAfter a service = cond (eqb (a .kind) 1) (packMastership (joined (a .numb
 abbrev pub posting : Ask → Mastership → Bool
 posting a service = cond (eqb (a .kind) 1) true (handsOver (a .number) (holdMastership service))
 
--- Kinds 9 and 10, 12 and 13: the wire.
-abbrev pub wireAfter : Ask → List Stream → Claims → Wire
-wireAfter a streams claims =
+-- Kinds 9 and 10, 12 and 13: the board.
+abbrev pub boardAfter : Ask → List Stream → Claims → Board
+boardAfter a streams claims =
     getD (storeTelling (a .number) (closeRule (a .number) .effect (toldOf (a .count) (a .number) true streams claims)) (a .count) streams claims
     ∷ storeTelling (a .number) (handleUpdateRule (a .number) .effect (toldOf (a .count) (a .number) true streams claims)) (a .count) streams claims
     ∷ record { streams = streams; claims = claims }
-    ∷ packWire (cleared (holdWire (a .count) streams claims)) ∷ []) (a .kind - 9)
+    ∷ packBoard (cleared (holdBoard (a .count) streams claims)) ∷ []) (a .kind - 9)
     (record { streams = streams; claims = claims })

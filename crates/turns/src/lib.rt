@@ -8,15 +8,15 @@ ghost use Rattle.state.specs.Order.{OrderedNodes};
 ghost use Rattle.asks.specs.Classes.{barrier};
 ghost use Rattle.nodes.specs.Waiting.{Waits};
 ghost use Rattle.writing.specs.Asks.{CanWrite};
-ghost use Rattle.turns.specs.Turns.{rowAnswer, deskAnswer, switchAnswer, wireAnswer, quiet, toldRow, writtenRow, rowAfter, serviceAfter, posting, wireAfter};
-ghost use Rattle.turns.specs.Asks.{RowAsks, WireAsks, RowGoes, DeskGoes, WireGoes};
+ghost use Rattle.turns.specs.Turns.{rowAnswer, deskAnswer, switchAnswer, boardAnswer, quiet, toldRow, writtenRow, rowAfter, serviceAfter, posting, boardAfter};
+ghost use Rattle.turns.specs.Asks.{RowAsks, BoardAsks, RowGoes, DeskGoes, BoardGoes};
 use asks::Ask;
 use parts::Mastership;
 use parts::Term;
 use state::Claims;
 use state::Node;
 use state::Stream;
-use state::Wire;
+use state::Board;
 
 // The kind that concerns a node alone.
 pub const LEARN: u8 = 3;
@@ -82,7 +82,7 @@ pub fn desk_code(ask: Ask, service: Mastership, nodes: [Node; 8]) -> u8
 }
 
 fn switch_code(ask: Ask, streams: [Stream; 8], claims: Claims) -> u8
-    requires { ⌜ WireAsks ask streams claims × (barrier ask ≡ stepDone) ⌝ }
+    requires { ⌜ BoardAsks ask streams claims × (barrier ask ≡ stepDone) ⌝ }
     ensures { λ r. ⌜ r ≡ switchAnswer ask streams claims ⌝ }
 {
     let kind = ask.kind;
@@ -95,9 +95,9 @@ fn switch_code(ask: Ask, streams: [Stream; 8], claims: Claims) -> u8
 }
 
 // Of the switch and all streams; and of a kind that does not exist, or does not call for the node.
-pub fn wire_code(ask: Ask, streams: [Stream; 8], claims: Claims) -> u8
-    requires { ⌜ WireAsks ask streams claims ⌝ }
-    ensures { λ r. ⌜ r ≡ wireAnswer ask streams claims ⌝ }
+pub fn board_code(ask: Ask, streams: [Stream; 8], claims: Claims) -> u8
+    requires { ⌜ BoardAsks ask streams claims ⌝ }
+    ensures { λ r. ⌜ r ≡ boardAnswer ask streams claims ⌝ }
 {
     let code = asks::barrier(ask);
     if code == parts::DONE {
@@ -207,16 +207,16 @@ pub fn posts(ask: Ask, service: Mastership) -> bool
 }
 
 // Of the streams and what the switch holds.
-pub fn wire_after(ask: Ask, streams: [Stream; 8], claims: Claims) -> Wire
-    requires { ⌜ WireGoes ask streams claims ⌝ }
-    ensures { λ r. ⌜ r ≡ wireAfter ask streams claims ⌝ }
+pub fn board_after(ask: Ask, streams: [Stream; 8], claims: Claims) -> Board
+    requires { ⌜ BoardGoes ask streams claims ⌝ }
+    ensures { λ r. ⌜ r ≡ boardAfter ask streams claims ⌝ }
 {
     let kind = ask.kind;
     match kind {
         9 => switch::close(ask.count, ask.number, streams, claims),
         10 => switch::handle_update(ask.count, ask.number, streams, claims),
         12 => switch::shutdown(ask.count, streams, claims),
-        _ => Wire {
+        _ => Board {
             streams: streams,
             claims: claims,
         },

@@ -8,7 +8,7 @@ use native.Mathlib.Omega.{arith}
 use Rattle.rules.specs.Step.{Event, fresh}
 use Rattle.state.specs.declared.Body.{Body}
 use Rattle.state.specs.declared.Table.{Table}
-use Rattle.moves.specs.Sets.{withWire}
+use Rattle.moves.specs.Sets.{withBoard}
 use Rattle.moves.specs.Stored.{few, in-order-nodes}
 use Rattle.asks.specs.declared.Ask.{Ask}
 use Rattle.asks.specs.Classes.{atRow, atDesk}
@@ -17,7 +17,7 @@ use Rattle.turns.specs.At.{At}
 use Rattle.turns.specs.Nodes.{node-ordered}
 use Rattle.runner.specs.Tables.{bodyIn, pending, settled, heard}
 use Rattle.runner.specs.Running.{Running, starts, keeps-length, ready, ends}
-use Rattle.runner.specs.Turning.{Coded, of-row, of-desk, of-wire, Turn, in-range, refused-way, at-row, asks-row, goes-row, learn-way, row-room, row-way, goes-desk, post-way, quiet-way, asks-wire, goes-wire, wire-way, same-body, unposted}
+use Rattle.runner.specs.Turning.{Coded, of-row, of-desk, of-board, Turn, in-range, refused-way, at-row, asks-row, goes-row, learn-way, row-room, row-way, goes-desk, post-way, quiet-way, asks-board, goes-board, board-way, same-body, unposted}
 use borrow.Author.Needs.{needs}
 use Rattle.runner.proofs.run_records.Statement.{statement}
 use Rattle.runner.proofs.run_records.Tie as tie
@@ -71,7 +71,7 @@ coded j =
     let row = sym (j .before .at-row .ensures) in
     ⊎-elim (λ x. of-row (row ∙ x .0 .taken) (x .6 ∙ x .5 .ensures))
     (λ y. ⊎-elim (λ x. of-desk (row ∙ x .0 .left) (sym (x .1 .ensures) ∙ x .2 .taken) (x .6 ∙ x .5 .ensures))
-    (λ x. of-wire (row ∙ x .0 .left) (sym (x .1 .ensures) ∙ x .2 .left) (x .6 ∙ x .5 .ensures)) y)
+    (λ x. of-board (row ∙ x .0 .left) (sym (x .1 .ensures) ∙ x .2 .left) (x .6 ∙ x .5 .ensures)) y)
     (j .if3 .came)
 
 -- ---- the class, where the answer is asked for and where it is 0
@@ -199,10 +199,10 @@ at-desk-requires c κs = search needs
 desk-code-requires : tie.Need-desk-code-requires Inv-loop μ-loop
 desk-code-requires c κs = in-order-nodes _ (in-range (turn (c .before .before .before .before .before .before)))
 
-wire-code-requires : tie.Need-wire-code-requires Inv-loop μ-loop
-wire-code-requires c κs =
+board-code-requires : tie.Need-board-code-requires Inv-loop μ-loop
+board-code-requires c κs =
     let g = c .before .before .before .before in
-    asks-wire (turn (g .before .before)) (sym (g .before .at-row .ensures) ∙ g .if3 .left) (sym (c .before .before .before .at-desk .ensures) ∙ c .before .before .if4 .left)
+    asks-board (turn (g .before .before)) (sym (g .before .at-row .ensures) ∙ g .if3 .left) (sym (c .before .before .before .at-desk .ensures) ∙ c .before .before .if4 .left)
 
 slice-write-out : tie.Need-slice-write-out Inv-loop μ-loop
 slice-write-out c =
@@ -382,13 +382,13 @@ loop-again-6 c =
     let x = c .before .before .service-after in
     (omega arith, omega arith, unposted _ _ (h .all) (quiet-way h (no-row (g .before .before)) (desk-again g) (j .if3 .code) (coded j) done (x .result) (x .ensures) (sym (c .before .posts .ensures) ∙ c .if9 .left)))
 
-wire-after-requires : tie.Need-wire-after-requires Inv-loop μ-loop
-wire-after-requires c κs =
+board-after-requires : tie.Need-board-after-requires Inv-loop μ-loop
+board-after-requires c κs =
     let g = c .before .before in
     let j = g .before .before .before .before .before in
     let h = turn (j .before .before) in
     let done = g .before .before .before .before .if5 .left in
-    goes-wire h (no-row (g .before .before)) (no-desk g) (j .if3 .code) (coded j) done
+    goes-board h (no-row (g .before .before)) (no-desk g) (j .if3 .code) (coded j) done
 
 runs-after-requires : tie.Need-runs-after-requires Inv-loop μ-loop
 runs-after-requires c κs = search needs
@@ -404,11 +404,11 @@ loop-again-7 c =
     let j = g .before .before .before .before .before in
     let h = turn (j .before .before) in
     let done = g .before .before .before .before .if5 .left in
-    let x = c .before .before .before .wire-after in (
+    let x = c .before .before .before .board-after in (
       omega arith,
       omega arith,
       unposted _ _ (h .all)
-          (same-body (ap (λ (y : Bool). withWire y (x .result .streams) (x .result .claims) (bodyIn (table-of (j .before .before)))) (c .runs-after .ensures)) (wire-way h (no-row (g .before .before)) (no-desk g) (j .if3 .code) (coded j) done (x .result) (x .ensures))),
+          (same-body (ap (λ (y : Bool). withBoard y (x .result .streams) (x .result .claims) (bodyIn (table-of (j .before .before)))) (c .runs-after .ensures)) (board-way h (no-row (g .before .before)) (no-desk g) (j .if3 .code) (coded j) done (x .result) (x .ensures))),
     )
 
 same-length : tie.Need-same-length Inv-loop μ-loop
@@ -449,7 +449,7 @@ run-records-spec =
     row-code-requires
     at-desk-requires
     desk-code-requires
-    wire-code-requires
+    board-code-requires
     slice-write-out
     add-i
     loop-less-2
@@ -481,7 +481,7 @@ run-records-spec =
     loop-again-5
     loop-less-6
     loop-again-6
-    wire-after-requires
+    board-after-requires
     runs-after-requires
     loop-less-7
     loop-again-7

@@ -20,20 +20,20 @@ use Rattle.state.specs.Hold.{holdCore}
 use Rattle.state.specs.Stores.{storeTelling}
 use Rattle.state.specs.declared.Stream.{Stream}
 use Rattle.state.specs.declared.Claims.{Claims}
-use Rattle.state.specs.declared.Wire.{Wire}
+use Rattle.state.specs.declared.Board.{Board}
 use Rattle.state.specs.declared.Body.{Body}
 use Rattle.laws.specs.Tests.{is-within, is-yes}
 use Rattle.moves.specs.Bodies.{stateOf, Ready, Leaves}
-use Rattle.moves.specs.Sets.{withWire}
-use Rattle.moves.specs.Stored.{in-order-wire, few}
+use Rattle.moves.specs.Sets.{withBoard}
+use Rattle.moves.specs.Stored.{in-order-board, few}
 use Rattle.moves.specs.Acts.{plain}
 use Rattle.switch.proofs.Callers.{close-tells, close-effect, update-tells, update-effect}
 use Rattle.asks.specs.Classes.{atRow, atDesk, barrierOf, barrier, runsAfter}
-use Rattle.asks.specs.Kinds.{WireKind, close, handleUpdate, shutdown, startup, wire-kind, wire-node, wire-none}
+use Rattle.asks.specs.Kinds.{BoardKind, close, handleUpdate, shutdown, startup, board-kind, board-node, board-none}
 use Rattle.turns.specs.At.{At}
-use Rattle.turns.specs.Switch.{at-wire, tell-yes, shutdown-yes, startup-yes}
-use Rattle.turns.specs.Turns.{switchAnswer, wireAnswer, wireAfter}
-use Rattle.turns.specs.Asks.{WireAsks, WireGoes}
+use Rattle.turns.specs.Switch.{at-board, tell-yes, shutdown-yes, startup-yes}
+use Rattle.turns.specs.Turns.{switchAnswer, boardAnswer, boardAfter}
+use Rattle.turns.specs.Asks.{BoardAsks, BoardGoes}
 use Rattle.turns.specs.Answers.{shutdown-answer, startup-answer}
 use Rattle.turns.specs.Called.{askOf, called-answer, called-leaves}
 
@@ -60,34 +60,34 @@ module _ (b : Body) (ready : Ready b) (n k : ℕ) where
   at-node e = let w = is-within 1 (b .count) n .to (is-yes (within 1 (b .count) n) .from e) in record { ready = ready; low = w .lower; high = w .upper; few = few b ready }
 
   module _ (row : atRow (askOf b k n) ≡ false) (desk : atDesk (askOf b k n) ≡ false) where
-    kind : barrier (askOf b k n) ≡ stepDone → WireKind k
-    kind z = wire-kind (b .count) n k row desk z
+    kind : barrier (askOf b k n) ≡ stepDone → BoardKind k
+    kind z = board-kind (b .count) n k row desk z
 
-    pub wire-asks : WireAsks (askOf b k n) (b .core .streams) (b .core .claims)
-    wire-asks = record {
-      wire = in-order-wire b ready;
+    pub board-asks : BoardAsks (askOf b k n) (b .core .streams) (b .core .claims)
+    board-asks = record {
+      board = in-order-board b ready;
       kind = kind;
-      within = λ z e. at-wire b n (at-node (wire-node (b .count) n k (kind z) (⊎-elim (λ f. omega arith) (λ f. omega arith) e) z));
+      within = λ z e. at-board b n (at-node (board-node (b .count) n k (kind z) (⊎-elim (λ f. omega arith) (λ f. omega arith) e) z));
     }
 
-    switch-answered : (history : List S.Write) → (j : ℕ) → WireKind j → barrierOf (kindOf j) (b .count) n ≡ stepDone
+    switch-answered : (history : List S.Write) → (j : ℕ) → BoardKind j → barrierOf (kindOf j) (b .count) n ≡ stepDone
         → switchAnswer (askOf b j n) (b .core .streams) (b .core .claims) ≡ ofKind (kindOf j) n (stateOf b history) .answer
     unfolding holdCore
-    switch-answered history _ close z = called-answer b n history 9 R.close refl (wire-node (b .count) n 9 close (omega arith) z) _ refl
-    switch-answered history _ handleUpdate z = called-answer b n history 10 R.handleUpdate refl (wire-node (b .count) n 10 handleUpdate (omega arith) z) _ refl
-    switch-answered history _ shutdown z = called-answer b n history 12 R.shutdown refl (eq-eqb n 0 (wire-none (b .count) n 12 shutdown (omega arith) z)) _ refl
-    switch-answered history _ startup z = called-answer b n history 13 R.startup refl (eq-eqb n 0 (wire-none (b .count) n 13 startup (omega arith) z)) _ refl
+    switch-answered history _ close z = called-answer b n history 9 R.close refl (board-node (b .count) n 9 close (omega arith) z) _ refl
+    switch-answered history _ handleUpdate z = called-answer b n history 10 R.handleUpdate refl (board-node (b .count) n 10 handleUpdate (omega arith) z) _ refl
+    switch-answered history _ shutdown z = called-answer b n history 12 R.shutdown refl (eq-eqb n 0 (board-none (b .count) n 12 shutdown (omega arith) z)) _ refl
+    switch-answered history _ startup z = called-answer b n history 13 R.startup refl (eq-eqb n 0 (board-none (b .count) n 13 startup (omega arith) z)) _ refl
 
-    pub wire-answered : (history : List S.Write) → wireAnswer (askOf b k n) (b .core .streams) (b .core .claims) ≡ ofKind (kindOf k) n (stateOf b history) .answer
-    wire-answered history = go (ℕ-discrete (barrier (askOf b k n)) stepDone)
+    pub board-answered : (history : List S.Write) → boardAnswer (askOf b k n) (b .core .streams) (b .core .claims) ≡ ofKind (kindOf k) n (stateOf b history) .answer
+    board-answered history = go (ℕ-discrete (barrier (askOf b k n)) stepDone)
       where
-        go : Dec (barrier (askOf b k n) ≡ stepDone) → wireAnswer (askOf b k n) (b .core .streams) (b .core .claims) ≡ ofKind (kindOf k) n (stateOf b history) .answer
+        go : Dec (barrier (askOf b k n) ≡ stepDone) → boardAnswer (askOf b k n) (b .core .streams) (b .core .claims) ≡ ofKind (kindOf k) n (stateOf b history) .answer
         go (yes z) = simp (eq-eqb (barrier (askOf b k n)) stepDone z) (switch-answered history k (kind z) z)
         go (no h) = simp (ne-eqb (barrier (askOf b k n)) stepDone h) (barrier-answer (kindOf k) n (stateOf b history) h)
 
     -- ---- where the answer is 0
 
-    module _ (z : wireAnswer (askOf b k n) (b .core .streams) (b .core .claims) ≡ stepDone) where
+    module _ (z : boardAnswer (askOf b k n) (b .core .streams) (b .core .claims) ≡ stepDone) where
       calls : barrier (askOf b k n) ≡ stepDone
       calls = go (ℕ-discrete (barrier (askOf b k n)) stepDone)
         where
@@ -102,19 +102,19 @@ module _ (b : Body) (ready : Ready b) (n k : ℕ) where
       done-at j e = subst (λ (i : ℕ). switchAnswer (askOf b i n) (b .core .streams) (b .core .claims) ≡ stepDone) e done
 
       called-node : k ≤ 10 → At b n
-      called-node h = at-node (wire-node (b .count) n k (kind calls) h calls)
+      called-node h = at-node (board-node (b .count) n k (kind calls) h calls)
 
-      pub wire-goes : WireGoes (askOf b k n) (b .core .streams) (b .core .claims)
-      wire-goes = record {
-        wire = in-order-wire b ready;
+      pub board-goes : BoardGoes (askOf b k n) (b .core .streams) (b .core .claims)
+      board-goes = record {
+        board = in-order-board b ready;
         kind = kind calls;
-        closes = λ e. close-tells (b .count) n (b .running) (b .core .streams) (b .core .claims) (at-wire b n (called-node (omega arith))) (done-at 9 e);
-        updates = λ e. update-tells (b .count) n (b .running) (b .core .streams) (b .core .claims) (at-wire b n (called-node (omega arith))) (done-at 10 e);
+        closes = λ e. close-tells (b .count) n (b .running) (b .core .streams) (b .core .claims) (at-board b n (called-node (omega arith))) (done-at 9 e);
+        updates = λ e. update-tells (b .count) n (b .running) (b .core .streams) (b .core .claims) (at-board b n (called-node (omega arith))) (done-at 10 e);
       }
 
-      pub wire-leaves : (history : List S.Write) (x : Wire) → x ≡ wireAfter (askOf b k n) (b .core .streams) (b .core .claims)
-          → Leaves n history (ofKind (kindOf k) n (stateOf b history)) (plain stepDone (withWire (runsAfter (askOf b k n)) (x .streams) (x .claims) b))
-      wire-leaves history x e = go k (kind calls) calls done e
+      pub board-leaves : (history : List S.Write) (x : Board) → x ≡ boardAfter (askOf b k n) (b .core .streams) (b .core .claims)
+          → Leaves n history (ofKind (kindOf k) n (stateOf b history)) (plain stepDone (withBoard (runsAfter (askOf b k n)) (x .streams) (x .claims) b))
+      board-leaves history x e = go k (kind calls) calls done e
         where
           streams : List Stream
           streams = b .core .streams
@@ -122,26 +122,26 @@ module _ (b : Body) (ready : Ready b) (n k : ℕ) where
           claims : Claims
           claims = b .core .claims
 
-          tells : (v : Telling) → Wire
+          tells : (v : Telling) → Board
           tells v = storeTelling n v (b .count) streams claims
 
-          go : (j : ℕ) → WireKind j → barrierOf (kindOf j) (b .count) n ≡ stepDone → switchAnswer (askOf b j n) (b .core .streams) (b .core .claims) ≡ stepDone
-              → x ≡ wireAfter (askOf b j n) (b .core .streams) (b .core .claims)
-              → Leaves n history (ofKind (kindOf j) n (stateOf b history)) (plain stepDone (withWire (runsAfter (askOf b j n)) (x .streams) (x .claims) b))
-          go _ close c z e = let i = wire-node (b .count) n 9 close (omega arith) c in
+          go : (j : ℕ) → BoardKind j → barrierOf (kindOf j) (b .count) n ≡ stepDone → switchAnswer (askOf b j n) (b .core .streams) (b .core .claims) ≡ stepDone
+              → x ≡ boardAfter (askOf b j n) (b .core .streams) (b .core .claims)
+              → Leaves n history (ofKind (kindOf j) n (stateOf b history)) (plain stepDone (withBoard (runsAfter (askOf b j n)) (x .streams) (x .claims) b))
+          go _ close c z e = let i = board-node (b .count) n 9 close (omega arith) c in
               called-leaves b n history 9 R.close refl i
               (tell-yes b n (at-node i) history (R.closeRule n) z x (e ∙ ap tells (close-effect (b .count) n (b .running) streams claims)) _ refl)
-          go _ handleUpdate c z e = let i = wire-node (b .count) n 10 handleUpdate (omega arith) c in
+          go _ handleUpdate c z e = let i = board-node (b .count) n 10 handleUpdate (omega arith) c in
               called-leaves b n history 10 R.handleUpdate refl i
               (tell-yes b n (at-node i) history (R.handleUpdateRule n) z x (e ∙ ap tells (update-effect (b .count) n (b .running) streams claims)) _ refl)
           go _ shutdown c z e =
-              subst (λ (j : ℕ). Leaves j history (ofKind (kindOf 12) j (stateOf b history)) (plain stepDone (withWire false (x .streams) (x .claims) b)))
-              (sym (wire-none (b .count) n 12 shutdown (omega arith) c))
+              subst (λ (j : ℕ). Leaves j history (ofKind (kindOf 12) j (stateOf b history)) (plain stepDone (withBoard false (x .streams) (x .claims) b)))
+              (sym (board-none (b .count) n 12 shutdown (omega arith) c))
               (called-leaves b 0 history 12 R.shutdown refl refl
               (shutdown-yes b ready history (is-true (b .running) (shutdown-answer (b .count) (b .running) streams claims ∙ z)) x e _ refl))
           go _ startup c z e =
-              subst (λ (j : ℕ). Leaves j history (ofKind (kindOf 13) j (stateOf b history)) (plain stepDone (withWire true (x .streams) (x .claims) b)))
-              (sym (wire-none (b .count) n 13 startup (omega arith) c))
+              subst (λ (j : ℕ). Leaves j history (ofKind (kindOf 13) j (stateOf b history)) (plain stepDone (withBoard true (x .streams) (x .claims) b)))
+              (sym (board-none (b .count) n 13 startup (omega arith) c))
               (called-leaves b 0 history 13 R.startup refl refl
               (startup-yes b ready history (not-true (b .running) (is-true (not (b .running)) (startup-answer (b .count) (b .running) streams claims ∙ z)))
-              _ (ap (λ (y : Wire). plain stepDone (withWire true (y .streams) (y .claims) b)) e)))
+              _ (ap (λ (y : Board). plain stepDone (withBoard true (y .streams) (y .claims) b)) e)))

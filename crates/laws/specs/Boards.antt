@@ -1,4 +1,4 @@
--- A wire stays in range where one stream, and with it the response queues, is written anew. Assumes nothing.
+-- A board stays in range where one stream, and with it the response queues, is written anew. Assumes nothing.
 use mathlib.Core.Path.{_≡_, sym, ap, _∙_}
 use mathlib.Core.Bool.{Bool, true, false, true≢false}
 use mathlib.Core.List.{List, []}
@@ -7,9 +7,9 @@ use native.Mathlib.Decide.{ℕ-discrete}
 use lib.ListN.{length, getD, set, length-set}
 use lib.Seq.{getD-set-same, getD-set-other, set-getD}
 use Rattle.rules.specs.Limits.{topTerm, topId}
-use Rattle.rules.specs.State.{Request, Response, Wire}
+use Rattle.rules.specs.State.{Request, Response, Board}
 use Rattle.rules.specs.Parts.{Telling}
-use Rattle.laws.specs.InRange.{All, DistinctIds, QueueFits, RequestFits, ResponseFits, Shut, StreamAt, WireFits}
+use Rattle.laws.specs.InRange.{All, DistinctIds, QueueFits, RequestFits, ResponseFits, Shut, StreamAt, BoardFits}
 use Rattle.laws.specs.Lists.{at-set}
 
 -- All response queues, by who is open.
@@ -27,9 +27,9 @@ own-queue {opens = opens} {qs = qs} j {q} o k h = record {
   closed = λ i e. getD-set-other qs j i q [] (λ z. true≢false (sym o ∙ ap (λ (l : ℕ). getD opens l false) (sym z) ∙ e)) ∙ h .closed i e;
 }
 
--- The wire with stream n as x says.
-abbrev pub rewired : ℕ → Telling → ℕ → Wire → Wire
-rewired n x last w = record {
+-- The board with stream n as x says.
+abbrev pub rewritten : ℕ → Telling → ℕ → Board → Board
+rewritten n x last w = record {
   opens = set (w .opens) (n - 1) (x .isOpen);
   sent = set (w .sent) (n - 1) (x .sent);
   requests = set (w .requests) (n - 1) (x .requests);
@@ -40,7 +40,7 @@ rewired n x last w = record {
 }
 
 -- What x has to be.
-pub record Anew (count : ℕ) (running : Bool) (w : Wire) (n : ℕ) (x : Telling) : Type 0 where
+pub record Anew (count : ℕ) (running : Bool) (w : Board) (n : ℕ) (x : Telling) : Type 0 where
   pub responses : ResponsesFit count (set (w .opens) (n - 1) (x .isOpen)) (x .responses)
   pub sent : x .sent ≤ topTerm
   pub requests : QueueFits RequestFits (x .requests)
@@ -50,12 +50,12 @@ pub record Anew (count : ℕ) (running : Bool) (w : Wire) (n : ℕ) (x : Telling
   pub distinct : DistinctIds (set (w .ids) (n - 1) (x .id))
   pub stopped : running ≡ false → All (λ o. o ≡ false) (set (w .opens) (n - 1) (x .isOpen))
 
-module _ {count : ℕ} {running : Bool} {w : Wire} (h : WireFits count running w) where
+module _ {count : ℕ} {running : Bool} {w : Board} (h : BoardFits count running w) where
   pub responses-fit : ResponsesFit count (w .opens) (w .responses)
   responses-fit = record { size = h .responses-size; queues = λ i. h .streams i .responses-fit; closed = λ i e. h .streams i .shut e .no-responses }
 
   module _ (n : ℕ) (place : n - 1 < count) where
-    stream-anew : (x : Telling) (last : ℕ) → Anew count running w n x → (i : ℕ) → Dec (i ≡ n - 1) → StreamAt (rewired n x last w) i
+    stream-anew : (x : Telling) (last : ℕ) → Anew count running w n x → (i : ℕ) → Dec (i ≡ n - 1) → StreamAt (rewritten n x last w) i
     stream-anew x last k i (yes e) =
         let o : getD (set (w .opens) (n - 1) (x .isOpen)) (n - 1) false ≡ x .isOpen = getD-set-same (w .opens) (n - 1) (x .isOpen) false (rw (h .opens-size) place) in
         rw (
@@ -95,8 +95,8 @@ module _ {count : ℕ} {running : Bool} {w : Wire} (h : WireFits count running w
               record { no-sent = s .no-sent; no-requests = s .no-requests; no-responses = k .responses .closed i (o ∙ e); no-id = s .no-id; no-term = s .no-term };
         })
 
-    pub rewired-fits : (x : Telling) (last : ℕ) → Anew count running w n x → last ≤ topTerm → WireFits count running (rewired n x last w)
-    rewired-fits x last k u = record {
+    pub rewritten-fits : (x : Telling) (last : ℕ) → Anew count running w n x → last ≤ topTerm → BoardFits count running (rewritten n x last w)
+    rewritten-fits x last k u = record {
       opens-size = length-set (w .opens) (n - 1) (x .isOpen) ∙ h .opens-size;
       sent-size = length-set (w .sent) (n - 1) (x .sent) ∙ h .sent-size;
       requests-size = length-set (w .requests) (n - 1) (x .requests) ∙ h .requests-size;
@@ -112,7 +112,7 @@ module _ {count : ℕ} {running : Bool} {w : Wire} (h : WireFits count running w
     -- A stream that is open, and stays so with its id and term.
     pub open-fits : (sent : ℕ) (requests : List Request) (responses : List (List Response)) (last : ℕ) → getD (w .opens) (n - 1) false ≡ true
         → sent ≤ topTerm → QueueFits RequestFits requests → ResponsesFit count (w .opens) responses → last ≤ topTerm
-        → WireFits count running (record {
+        → BoardFits count running (record {
           opens = w .opens;
           sent = set (w .sent) (n - 1) sent;
           requests = set (w .requests) (n - 1) requests;
@@ -121,7 +121,7 @@ module _ {count : ℕ} {running : Bool} {w : Wire} (h : WireFits count running w
           terms = w .terms;
           last = last;
         })
-    open-fits sent requests responses last o a b c d = simp set-getD at (rewired-fits (record {
+    open-fits sent requests responses last o a b c d = simp set-getD at (rewritten-fits (record {
       isOpen = getD (w .opens) (n - 1) false;
       sent = sent;
       requests = requests;
@@ -140,7 +140,7 @@ module _ {count : ℕ} {running : Bool} {w : Wire} (h : WireFits count running w
     }) d)
 
     -- A stream that is opened: it may have been closed, with nothing on it.
-    pub opened-fits : running ≡ true → WireFits count running (record {
+    pub opened-fits : running ≡ true → BoardFits count running (record {
       opens = set (w .opens) (n - 1) true;
       sent = w .sent;
       requests = w .requests;
@@ -149,7 +149,7 @@ module _ {count : ℕ} {running : Bool} {w : Wire} (h : WireFits count running w
       terms = w .terms;
       last = w .last;
     })
-    opened-fits r = let y = h .streams (n - 1) in simp set-getD at (rewired-fits (record {
+    opened-fits r = let y = h .streams (n - 1) in simp set-getD at (rewritten-fits (record {
       isOpen = true;
       sent = getD (w .sent) (n - 1) 0;
       requests = getD (w .requests) (n - 1) [];

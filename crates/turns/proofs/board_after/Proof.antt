@@ -1,9 +1,9 @@
--- `wire_after` meets its contract. Assumes nothing.
+-- `board_after` meets its contract. Assumes nothing.
 use mathlib.Core.Path.{refl}
-use Rattle.asks.specs.Kinds.{last-wire}
+use Rattle.asks.specs.Kinds.{last-board}
 use borrow.Author.Needs.{needs}
-use Rattle.turns.proofs.wire_after.Statement.{statement}
-use Rattle.turns.proofs.wire_after.Tie as tie
+use Rattle.turns.proofs.board_after.Statement.{statement}
+use Rattle.turns.proofs.board_after.Tie as tie
 
 close-requires : tie.Need-close-requires
 close-requires c κs = c .before .pre .closes (c .match .keys1)
@@ -24,7 +24,7 @@ returns-3 : tie.Need-returns-3
 returns-3 c = rw (c .before .match .keys3) (c .shutdown .ensures)
 
 returns-4 : tie.Need-returns-4
-returns-4 c = let m = c .match in rw (last-wire _ (c .before .pre .kind) (m .rest .0 .0 .1) (m .rest .0 .1) (m .rest .1)) refl
+returns-4 c = let m = c .match in rw (last-board _ (c .before .pre .kind) (m .rest .0 .0 .1) (m .rest .0 .1) (m .rest .1)) refl
 
-pub wire-after-spec : {M : Type 1} → statement M
-wire-after-spec = tie.close (tie.spec close-requires handle-update-requires shutdown-requires returns returns-2 returns-3 returns-4)
+pub board-after-spec : {M : Type 1} → statement M
+board-after-spec = tie.close (tie.spec close-requires handle-update-requires shutdown-requires returns returns-2 returns-3 returns-4)

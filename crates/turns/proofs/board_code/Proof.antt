@@ -1,9 +1,9 @@
--- `wire_code` meets its contract. Assumes nothing.
+-- `board_code` meets its contract. Assumes nothing.
 use mathlib.Core.Path.{sym, _∙_}
 use borrow.Author.Tests.{eq-eqb, ne-eqb}
 use borrow.Author.Needs.{needs}
-use Rattle.turns.proofs.wire_code.Statement.{statement}
-use Rattle.turns.proofs.wire_code.Tie as tie
+use Rattle.turns.proofs.board_code.Statement.{statement}
+use Rattle.turns.proofs.board_code.Tie as tie
 
 barrier-requires : tie.Need-barrier-requires
 barrier-requires c κs = search needs
@@ -17,5 +17,5 @@ returns c = simp (eq-eqb _ 0 (sym (c .before .before .barrier .ensures) ∙ c .b
 returns-2 : tie.Need-returns-2
 returns-2 c = simp (ne-eqb _ 0 (λ z. c .if1 .left (c .before .barrier .ensures ∙ z))) (c .before .barrier .ensures)
 
-pub wire-code-spec : {M : Type 1} → statement M
-wire-code-spec = tie.close (tie.spec barrier-requires switch-code-requires returns returns-2)
+pub board-code-spec : {M : Type 1} → statement M
+board-code-spec = tie.close (tie.spec barrier-requires switch-code-requires returns returns-2)
