@@ -24,13 +24,13 @@ atRow a = rowKind (a .kind) && hasNode a
 abbrev pub atDesk : Ask → Bool
 atDesk a = deskKind (a .kind) && hasNode a
 
--- Of a kind that does not exist, or at a node that it does not call for; 0 for any other.
-abbrev pub barrierOf : Option Kind → ℕ → ℕ → ℕ
-barrierOf none count n = unknownKind
-barrierOf (some k) count n = cond (called (classOf k) count n) stepDone wrongNode
+-- The answer to a kind that does not exist, or at a node that it does not call for; 0 for any other.
+abbrev pub existenceOf : Option Kind → ℕ → ℕ → ℕ
+existenceOf none count n = unknownKind
+existenceOf (some k) count n = cond (called (classOf k) count n) stepDone wrongNode
 
-abbrev pub barrier : Ask → ℕ
-barrier a = barrierOf (kindOf (a .kind)) (a .count) (a .number)
+abbrev pub existence : Ask → ℕ
+existence a = existenceOf (kindOf (a .kind)) (a .count) (a .number)
 
 -- Kinds 12 and 13 alone change it.
 abbrev pub runsAfter : Ask → Bool

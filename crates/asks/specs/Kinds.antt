@@ -15,7 +15,7 @@ use Rattle.laws.specs.InRange.{Within}
 use Rattle.laws.specs.Kinds.{of-none, of-node, of-power}
 use Rattle.laws.specs.Tests.{is-eq, is-within, is-yes}
 use Rattle.asks.specs.declared.Ask.{Ask}
-use Rattle.asks.specs.Classes.{hasNode, rowKind, deskKind, atRow, atDesk, barrierOf}
+use Rattle.asks.specs.Classes.{hasNode, rowKind, deskKind, atRow, atDesk, existenceOf}
 
 -- ---- which kinds each class has
 
@@ -119,14 +119,14 @@ last-board _ startup a b c = refl
 -- ---- whether a kind exists, and the node is one that it calls for: one of the N for kinds 1 to 11, and 0 for 12 and 13
 
 module _ (count n : ℕ) where
-  pub no-barrier : (k : ℕ) → 13 < k → barrierOf (kindOf k) count n ≡ unknownKind
-  no-barrier k h = of-none (λ o. barrierOf o count n) (cond (within 1 count n) stepDone wrongNode) (cond (eqb n 0) stepDone wrongNode) refl k h
+  pub no-existence : (k : ℕ) → 13 < k → existenceOf (kindOf k) count n ≡ unknownKind
+  no-existence k h = of-none (λ o. existenceOf o count n) (cond (within 1 count n) stepDone wrongNode) (cond (eqb n 0) stepDone wrongNode) refl k h
 
-  pub node-barrier : (k : ℕ) → 1 ≤ k → k ≤ 11 → barrierOf (kindOf k) count n ≡ cond (within 1 count n) stepDone wrongNode
-  node-barrier k h j = of-node (λ o. barrierOf o count n) (cond (within 1 count n) stepDone wrongNode) (cond (eqb n 0) stepDone wrongNode) refl k h (omega arith)
+  pub node-existence : (k : ℕ) → 1 ≤ k → k ≤ 11 → existenceOf (kindOf k) count n ≡ cond (within 1 count n) stepDone wrongNode
+  node-existence k h j = of-node (λ o. existenceOf o count n) (cond (within 1 count n) stepDone wrongNode) (cond (eqb n 0) stepDone wrongNode) refl k h (omega arith)
 
-  pub power-barrier : (k : ℕ) → 12 ≤ k → k ≤ 13 → barrierOf (kindOf k) count n ≡ cond (eqb n 0) stepDone wrongNode
-  power-barrier k h j = of-power (λ o. barrierOf o count n) (cond (within 1 count n) stepDone wrongNode) (cond (eqb n 0) stepDone wrongNode) refl k h (omega arith)
+  pub power-existence : (k : ℕ) → 12 ≤ k → k ≤ 13 → existenceOf (kindOf k) count n ≡ cond (eqb n 0) stepDone wrongNode
+  power-existence k h j = of-power (λ o. existenceOf o count n) (cond (within 1 count n) stepDone wrongNode) (cond (eqb n 0) stepDone wrongNode) refl k h (omega arith)
 
 -- ---- neither a row's kind nor the service's
 
@@ -139,7 +139,7 @@ module _ (count n : ℕ) where
   clash true e f = let w : _≡_ {A = ℕ} 0 1 = cc in absurd (omega arith)
   clash false e f = absurd (omega arith)
 
-  pub board-kind : (k : ℕ) → (rowKind k && within 1 count n) ≡ false → (deskKind k && within 1 count n) ≡ false → barrierOf (kindOf k) count n ≡ stepDone → BoardKind k
+  pub board-kind : (k : ℕ) → (rowKind k && within 1 count n) ≡ false → (deskKind k && within 1 count n) ≡ false → existenceOf (kindOf k) count n ≡ stepDone → BoardKind k
   unfolding within
   board-kind zero r d z = absurd (omega arith)
   board-kind (suc zero) r d z = absurd (clash (within 1 count n) z d)
@@ -157,13 +157,13 @@ module _ (count n : ℕ) where
   board-kind (suc (suc (suc (suc (suc (suc (suc (suc (suc (suc (suc (suc (suc zero))))))))))))) r d z = startup
   board-kind (suc (suc (suc (suc (suc (suc (suc (suc (suc (suc (suc (suc (suc (suc k)))))))))))))) r d z = absurd (omega arith)
 
-  pub board-node : (k : ℕ) → BoardKind k → k ≤ 10 → barrierOf (kindOf k) count n ≡ stepDone → within 1 count n ≡ true
+  pub board-node : (k : ℕ) → BoardKind k → k ≤ 10 → existenceOf (kindOf k) count n ≡ stepDone → within 1 count n ≡ true
   board-node _ close h z = yes-of (within 1 count n) z
   board-node _ handleUpdate h z = yes-of (within 1 count n) z
   board-node _ shutdown h z = absurd (omega arith)
   board-node _ startup h z = absurd (omega arith)
 
-  pub board-none : (k : ℕ) → BoardKind k → 12 ≤ k → barrierOf (kindOf k) count n ≡ stepDone → n ≡ 0
+  pub board-none : (k : ℕ) → BoardKind k → 12 ≤ k → existenceOf (kindOf k) count n ≡ stepDone → n ≡ 0
   board-none _ close h z = absurd (omega arith)
   board-none _ handleUpdate h z = absurd (omega arith)
   board-none _ shutdown h z = is-eq n 0 .to (is-yes (eqb n 0) .from (yes-of (eqb n 0) z))

@@ -1,6 +1,6 @@
 // A step that is asked for: which part of the state it concerns, whether it exists, and whether the switch runs after it.
 ghost use mathlib.Core.Path.{_≡_};
-ghost use Rattle.asks.specs.Classes.{hasNode, rowKind, atRow, atDesk, barrier, runsAfter};
+ghost use Rattle.asks.specs.Classes.{hasNode, rowKind, atRow, atDesk, existence, runsAfter};
 
 // A step that is asked for, with the node count and whether the switch runs.
 pub struct Ask {
@@ -54,9 +54,9 @@ pub fn at_desk(ask: Ask) -> bool
     has_node(ask)
 }
 
-// Whether the kind exists and calls for the node.
-pub fn barrier(ask: Ask) -> u8
-    ensures { λ r. ⌜ r ≡ barrier ask ⌝ }
+// Why there is no such step: the kind is unknown, or it does not call for the node. Done where there is.
+pub fn existence_code(ask: Ask) -> u8
+    ensures { λ r. ⌜ r ≡ existence ask ⌝ }
 {
     let kind = ask.kind;
     if kind == 0 {

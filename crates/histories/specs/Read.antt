@@ -53,7 +53,7 @@ run-refusal-low list out = go (eqb (refusal list) 0)
 
 none-kept-out : (count : ℕ) (es : List Event) → KeptOut count es []
 none-kept-out count es = record {
-  rising = tt;
+  never-falls = tt;
   one-node = λ x y p. absurd (List·Memᴰ·not-nil p);
   named = λ w p. absurd (List·Memᴰ·not-nil p);
   no-other = λ w p. absurd (List·Memᴰ·not-nil p);

@@ -11,7 +11,7 @@ use Rattle.rules.specs.Parts.{withCore, withBoard}
 use Rattle.rules.specs.Step.{Event, ofState, fresh}
 use Rattle.laws.specs.Computed.{computed}
 use Rattle.situations.specs.Names.{Join, Leave, Learn, SendUpdate, ReceiveUpdate, SendWrite, Connect, Close, HandleUpdate, HandleWrite, Shutdown, Startup, by}
-use Rattle.oldmaster.specs.KeptOut.{historyAfter, Rising}
+use Rattle.oldmaster.specs.KeptOut.{historyAfter, NeverFalls}
 
 -- ---- the mistakes
 
@@ -94,7 +94,7 @@ pub record Mistaken : Type 0 where
   pub forgotten-at-shutdown : historyBy forgotten afterRestart ≡ backwards
   pub id-stays : historyBy idStays afterBoth ≡ backwards
   -- That is no history as claimed.
-  pub not-rising : Rising backwards → ⊥
+  pub it-falls : NeverFalls backwards → ⊥
 
 -- By the rules, one of the two writes is denied.
 pub record Proper : Type 0 where
@@ -109,7 +109,7 @@ mistaken = record {
   not-raised = refl;
   forgotten-at-shutdown = refl;
   id-stays = refl;
-  not-rising = λ h. let u : 2 ≤ 1 = h .0 .0 in omega arith;
+  it-falls = λ h. let u : 2 ≤ 1 = h .0 .0 in omega arith;
 }
 
 pub proper : Proper

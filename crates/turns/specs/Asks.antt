@@ -17,7 +17,7 @@ use Rattle.nodes.specs.Waiting.{Waits}
 use Rattle.streams.specs.Asks.{IsNode}
 use Rattle.switch.specs.Asks.{AtBoard, Tells}
 use Rattle.writing.specs.Asks.{CanWrite}
-use Rattle.asks.specs.Classes.{barrier}
+use Rattle.asks.specs.Classes.{existence}
 use Rattle.asks.specs.Kinds.{RowKind, DeskKind, BoardKind}
 use Rattle.asks.specs.declared.Ask.{Ask}
 
@@ -44,8 +44,8 @@ pub record DeskGoes (a : Ask) (service : Mastership) : Type 0 where
 -- The streams and what the switch holds, in order; one of the nodes where the kind calls for one.
 pub record BoardAsks (a : Ask) (streams : List Stream) (claims : Claims) : Type 0 where
   pub board : OrderedBoard (a .count) streams claims
-  pub kind : barrier a ≡ stepDone → BoardKind (a .kind)
-  pub within : barrier a ≡ stepDone → (a .kind ≡ 9) ⊎ (a .kind ≡ 10) → AtBoard (a .count) (a .number) streams claims
+  pub kind : existence a ≡ stepDone → BoardKind (a .kind)
+  pub within : existence a ≡ stepDone → (a .kind ≡ 9) ⊎ (a .kind ≡ 10) → AtBoard (a .count) (a .number) streams claims
 
 -- The same, where the answer is 0.
 pub record BoardGoes (a : Ask) (streams : List Stream) (claims : Claims) : Type 0 where

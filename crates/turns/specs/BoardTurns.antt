@@ -28,7 +28,7 @@ use Rattle.moves.specs.Sets.{withBoard}
 use Rattle.moves.specs.Stored.{in-order-board, few}
 use Rattle.moves.specs.Acts.{plain}
 use Rattle.switch.proofs.Callers.{close-tells, close-effect, update-tells, update-effect}
-use Rattle.asks.specs.Classes.{atRow, atDesk, barrierOf, barrier, runsAfter}
+use Rattle.asks.specs.Classes.{atRow, atDesk, existenceOf, existence, runsAfter}
 use Rattle.asks.specs.Kinds.{BoardKind, close, handleUpdate, shutdown, startup, board-kind, board-node, board-none}
 use Rattle.turns.specs.At.{At}
 use Rattle.turns.specs.Switch.{at-board, tell-yes, shutdown-yes, startup-yes}
@@ -39,9 +39,9 @@ use Rattle.turns.specs.Called.{askOf, called-answer, called-leaves}
 
 -- ---- the step that nothing calls for
 
-pub barrier-answer : (o : Option Kind) (n : ℕ) (s : S.State) → barrierOf o (s .count) n ≢ stepDone → barrierOf o (s .count) n ≡ ofKind o n s .answer
-barrier-answer none n s h = refl
-barrier-answer (some k) n s h = go (called (classOf k) (s .count) n) h
+pub existence-answer : (o : Option Kind) (n : ℕ) (s : S.State) → existenceOf o (s .count) n ≢ stepDone → existenceOf o (s .count) n ≡ ofKind o n s .answer
+existence-answer none n s h = refl
+existence-answer (some k) n s h = go (called (classOf k) (s .count) n) h
   where
     go : (x : Bool) → cond x stepDone wrongNode ≢ stepDone → cond x stepDone wrongNode ≡ atNode x k n s .answer
     go true h = absurd (h refl)
@@ -60,7 +60,7 @@ module _ (b : Body) (ready : Ready b) (n k : ℕ) where
   at-node e = let w = is-within 1 (b .count) n .to (is-yes (within 1 (b .count) n) .from e) in record { ready = ready; low = w .lower; high = w .upper; few = few b ready }
 
   module _ (row : atRow (askOf b k n) ≡ false) (desk : atDesk (askOf b k n) ≡ false) where
-    kind : barrier (askOf b k n) ≡ stepDone → BoardKind k
+    kind : existence (askOf b k n) ≡ stepDone → BoardKind k
     kind z = board-kind (b .count) n k row desk z
 
     pub board-asks : BoardAsks (askOf b k n) (b .core .streams) (b .core .claims)
@@ -70,7 +70,7 @@ module _ (b : Body) (ready : Ready b) (n k : ℕ) where
       within = λ z e. at-board b n (at-node (board-node (b .count) n k (kind z) (⊎-elim (λ f. omega arith) (λ f. omega arith) e) z));
     }
 
-    switch-answered : (history : List S.Write) → (j : ℕ) → BoardKind j → barrierOf (kindOf j) (b .count) n ≡ stepDone
+    switch-answered : (history : List S.Write) → (j : ℕ) → BoardKind j → existenceOf (kindOf j) (b .count) n ≡ stepDone
         → switchAnswer (askOf b j n) (b .core .streams) (b .core .claims) ≡ ofKind (kindOf j) n (stateOf b history) .answer
     unfolding holdCore
     switch-answered history _ close z = called-answer b n history 9 R.close refl (board-node (b .count) n 9 close (omega arith) z) _ refl
@@ -79,24 +79,24 @@ module _ (b : Body) (ready : Ready b) (n k : ℕ) where
     switch-answered history _ startup z = called-answer b n history 13 R.startup refl (eq-eqb n 0 (board-none (b .count) n 13 startup (omega arith) z)) _ refl
 
     pub board-answered : (history : List S.Write) → boardAnswer (askOf b k n) (b .core .streams) (b .core .claims) ≡ ofKind (kindOf k) n (stateOf b history) .answer
-    board-answered history = go (ℕ-discrete (barrier (askOf b k n)) stepDone)
+    board-answered history = go (ℕ-discrete (existence (askOf b k n)) stepDone)
       where
-        go : Dec (barrier (askOf b k n) ≡ stepDone) → boardAnswer (askOf b k n) (b .core .streams) (b .core .claims) ≡ ofKind (kindOf k) n (stateOf b history) .answer
-        go (yes z) = simp (eq-eqb (barrier (askOf b k n)) stepDone z) (switch-answered history k (kind z) z)
-        go (no h) = simp (ne-eqb (barrier (askOf b k n)) stepDone h) (barrier-answer (kindOf k) n (stateOf b history) h)
+        go : Dec (existence (askOf b k n) ≡ stepDone) → boardAnswer (askOf b k n) (b .core .streams) (b .core .claims) ≡ ofKind (kindOf k) n (stateOf b history) .answer
+        go (yes z) = simp (eq-eqb (existence (askOf b k n)) stepDone z) (switch-answered history k (kind z) z)
+        go (no h) = simp (ne-eqb (existence (askOf b k n)) stepDone h) (existence-answer (kindOf k) n (stateOf b history) h)
 
     -- ---- where the answer is 0
 
     module _ (z : boardAnswer (askOf b k n) (b .core .streams) (b .core .claims) ≡ stepDone) where
-      calls : barrier (askOf b k n) ≡ stepDone
-      calls = go (ℕ-discrete (barrier (askOf b k n)) stepDone)
+      calls : existence (askOf b k n) ≡ stepDone
+      calls = go (ℕ-discrete (existence (askOf b k n)) stepDone)
         where
-          go : Dec (barrier (askOf b k n) ≡ stepDone) → barrier (askOf b k n) ≡ stepDone
+          go : Dec (existence (askOf b k n) ≡ stepDone) → existence (askOf b k n) ≡ stepDone
           go (yes e) = e
-          go (no h) = simp (ne-eqb (barrier (askOf b k n)) stepDone h) at z
+          go (no h) = simp (ne-eqb (existence (askOf b k n)) stepDone h) at z
 
       done : switchAnswer (askOf b k n) (b .core .streams) (b .core .claims) ≡ stepDone
-      done = simp (eq-eqb (barrier (askOf b k n)) stepDone calls) at z
+      done = simp (eq-eqb (existence (askOf b k n)) stepDone calls) at z
 
       done-at : (j : ℕ) → k ≡ j → switchAnswer (askOf b j n) (b .core .streams) (b .core .claims) ≡ stepDone
       done-at j e = subst (λ (i : ℕ). switchAnswer (askOf b i n) (b .core .streams) (b .core .claims) ≡ stepDone) e done
@@ -125,7 +125,7 @@ module _ (b : Body) (ready : Ready b) (n k : ℕ) where
           tells : (v : Telling) → Board
           tells v = storeTelling n v (b .count) streams claims
 
-          go : (j : ℕ) → BoardKind j → barrierOf (kindOf j) (b .count) n ≡ stepDone → switchAnswer (askOf b j n) (b .core .streams) (b .core .claims) ≡ stepDone
+          go : (j : ℕ) → BoardKind j → existenceOf (kindOf j) (b .count) n ≡ stepDone → switchAnswer (askOf b j n) (b .core .streams) (b .core .claims) ≡ stepDone
               → x ≡ boardAfter (askOf b j n) (b .core .streams) (b .core .claims)
               → Leaves n history (ofKind (kindOf j) n (stateOf b history)) (plain stepDone (withBoard (runsAfter (askOf b j n)) (x .streams) (x .claims) b))
           go _ close c z e = let i = board-node (b .count) n 9 close (omega arith) c in

@@ -20,7 +20,7 @@ use Rattle.nodes.specs.Waiting.{received}
 use Rattle.writing.specs.Handled.{storeHandled}
 use Rattle.writing.specs.declared.Handled.{Handled}
 use Rattle.asks.specs.declared.Ask.{Ask}
-use Rattle.asks.specs.Classes.{barrier}
+use Rattle.asks.specs.Classes.{existence}
 use Rattle.turns.specs.declared.Row.{Row}
 
 -- ---- the answers
@@ -53,7 +53,7 @@ switchAnswer a streams claims =
     (answerOf (decide startupRule (powerOf (a .count) (a .running) streams claims)))
 
 abbrev pub boardAnswer : Ask → List Stream → Claims → ℕ
-boardAnswer a streams claims = cond (eqb (barrier a) stepDone) (switchAnswer a streams claims) (barrier a)
+boardAnswer a streams claims = cond (eqb (existence a) stepDone) (switchAnswer a streams claims) (existence a)
 
 -- ---- what is left
 

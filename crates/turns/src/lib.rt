@@ -5,7 +5,7 @@ ghost use mathlib.Core.Logic.{_≢_};
 ghost use mathlib.Core.Bool.{cond};
 ghost use Rattle.rules.specs.Codes.{stepDone, notAllowed};
 ghost use Rattle.state.specs.Order.{OrderedNodes};
-ghost use Rattle.asks.specs.Classes.{barrier};
+ghost use Rattle.asks.specs.Classes.{existence};
 ghost use Rattle.nodes.specs.Waiting.{Waits};
 ghost use Rattle.writing.specs.Asks.{CanWrite};
 ghost use Rattle.turns.specs.Turns.{rowAnswer, deskAnswer, switchAnswer, boardAnswer, quiet, toldRow, writtenRow, rowAfter, serviceAfter, posting, boardAfter};
@@ -82,7 +82,7 @@ pub fn desk_code(ask: Ask, service: Mastership, nodes: [Node; 8]) -> u8
 }
 
 fn switch_code(ask: Ask, streams: [Stream; 8], claims: Claims) -> u8
-    requires { ⌜ BoardAsks ask streams claims × (barrier ask ≡ stepDone) ⌝ }
+    requires { ⌜ BoardAsks ask streams claims × (existence ask ≡ stepDone) ⌝ }
     ensures { λ r. ⌜ r ≡ switchAnswer ask streams claims ⌝ }
 {
     let kind = ask.kind;
@@ -99,7 +99,7 @@ pub fn board_code(ask: Ask, streams: [Stream; 8], claims: Claims) -> u8
     requires { ⌜ BoardAsks ask streams claims ⌝ }
     ensures { λ r. ⌜ r ≡ boardAnswer ask streams claims ⌝ }
 {
-    let code = asks::barrier(ask);
+    let code = asks::existence_code(ask);
     if code == parts::DONE {
         return switch_code(ask, streams, claims);
     }
