@@ -142,8 +142,8 @@ fn at_desk(body: Body, kind: u8, number: u8) -> Moved
     if code == parts::DONE {
         let next = turns::service_after(ask, service);
         if turns::posts(ask, service) {
-            let told = service::post(body.count, nodes, next);
-            return plain(parts::DONE, with_desk(body, next, told));
+            let heard = service::post(body.count, nodes, next);
+            return plain(parts::DONE, with_desk(body, next, heard));
         }
         return plain(parts::DONE, with_desk(body, next, nodes));
     }

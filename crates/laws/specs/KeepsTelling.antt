@@ -136,15 +136,15 @@ module _ {count : ℕ} {running : Bool} {w : Board} (h : BoardFits count running
     stopped = λ e. absurd (true≢false (sym r ∙ e));
   }
     where
-      told : ResponseFits (news (idsWith n v) n)
-      told = news-fits (idsWith n v) n (ids-high (asked v .id) (k .id .upper))
+      news-fit : ResponseFits (news (idsWith n v) n)
+      news-fit = news-fits (idsWith n v) n (ids-high (asked v .id) (k .id .upper))
 
       go : (b : Bool) → T (cond b (roomOpen (w .opens) (w .responses)) (room (getD (w .responses) (n - 1) [])))
           → ResponsesFit count (w .opens)
           (cond b (tellAll (idsWith n v) (w .opens) (w .responses)) (set (w .responses) (n - 1) (push (news (idsWith n v) n) (getD (w .responses) (n - 1) []))))
       go true t = told-fits (idsWith n v) (ids-high (asked v .id) (k .id .upper)) count (w .opens) (w .responses) t (responses-fit h)
       go false t = own-queue (n - 1) o
-          (queue-push ResponseFits _ (getD (w .responses) (n - 1) []) told t (h .streams (n - 1) .responses-fit)) (responses-fit h)
+          (queue-push ResponseFits _ (getD (w .responses) (n - 1) []) news-fit t (h .streams (n - 1) .responses-fit)) (responses-fit h)
 
   pub handle-update-fits : Passes (handleUpdateRule n) v → Anew count running w n (handleUpdateRule n .effect v)
   unfolding handleUpdateRule

@@ -1,2 +1,2 @@
-pub mod Told
-pub mod Telling
+pub mod Reply
+pub mod Replies

@@ -14,16 +14,16 @@ use Rattle.moves.specs.Sets.{withDesk}
 abbrev pub bodyIn : Table → Body
 bodyIn t = record { count = t .count; running = t .running; core = record { service = t .service; nodes = t .nodes; streams = t .streams; claims = t .claims } }
 
--- What the table will hold once the nodes from `told` on have heard of the service's mastership.
+-- What the table will hold once the nodes from `reached` on have heard of the service's mastership.
 abbrev pub pending : Table → ℕ → Body
-pending t told = withDesk (t .service) (mapFrom (hears (t .service)) told (t .count) (t .nodes)) (bodyIn t)
+pending t reached = withDesk (t .service) (mapFrom (hears (t .service)) reached (t .count) (t .nodes)) (bodyIn t)
 
 -- All have heard.
-pub settled : (t : Table) (told : ℕ) → told ≡ t .count → pending t told ≡ bodyIn t
-settled t told e = ap (λ (k : ℕ). pending t k) e ∙ ap (λ (l : List Node). withDesk (t .service) l (bodyIn t)) (mapFrom-none (hears (t .service)) (t .count) (t .nodes))
+pub settled : (t : Table) (reached : ℕ) → reached ≡ t .count → pending t reached ≡ bodyIn t
+settled t reached e = ap (λ (k : ℕ). pending t k) e ∙ ap (λ (l : List Node). withDesk (t .service) l (bodyIn t)) (mapFrom-none (hears (t .service)) (t .count) (t .nodes))
 
 -- One more has heard.
-pub heard : (t : Table) (told : ℕ) (x : Node) → x ≡ hears (t .service) (getD (t .nodes) told pastNode) → told < t .count
-    → pending (record { count = t .count; running = t .running; service = t .service; nodes = set (t .nodes) told x; streams = t .streams; claims = t .claims }) (told + 1) ≡ pending t told
-heard t told x e h =
-    ap (λ (l : List Node). withDesk (t .service) l (bodyIn t)) (mapFrom-step (hears (t .service)) told (t .count) (t .nodes) pastNode x e h)
+pub heard : (t : Table) (reached : ℕ) (x : Node) → x ≡ hears (t .service) (getD (t .nodes) reached pastNode) → reached < t .count
+    → pending (record { count = t .count; running = t .running; service = t .service; nodes = set (t .nodes) reached x; streams = t .streams; claims = t .claims }) (reached + 1) ≡ pending t reached
+heard t reached x e h =
+    ap (λ (l : List Node). withDesk (t .service) l (bodyIn t)) (mapFrom-step (hears (t .service)) reached (t .count) (t .nodes) pastNode x e h)

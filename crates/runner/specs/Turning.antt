@@ -75,19 +75,19 @@ module _ (table : Table) (e : Event) (writes code : ℕ) where
   board-coded (of-board r d c) h k = c
 
 -- A turn that reads the record i: every node has heard, and the loop holds the run so far.
-pub record Turn (list : List ℕ) (t : Trailer) (out₀ : List ℕ) (i n : ℕ) (out : List ℕ) (table : Table) (told : ℕ) (e : Event) : Type 0 where
+pub record Turn (list : List ℕ) (t : Trailer) (out₀ : List ℕ) (i n : ℕ) (out : List ℕ) (table : Table) (reached : ℕ) (e : Event) : Type 0 where
   pub runs : Runs list t (length out₀)
-  pub now : Running list out₀ i out (pending table told) n
-  pub all : told ≡ table .count
+  pub now : Running list out₀ i out (pending table reached) n
+  pub all : reached ≡ table .count
   pub is : e ≡ recordAt list i
   pub lt : i < recordCount list
 
-module _ {list : List ℕ} {t : Trailer} {out₀ : List ℕ} {i n : ℕ} {out : List ℕ} {table : Table} {told : ℕ} {e : Event} (turn : Turn list t out₀ i n out table told e) where
+module _ {list : List ℕ} {t : Trailer} {out₀ : List ℕ} {i n : ℕ} {out : List ℕ} {table : Table} {reached : ℕ} {e : Event} (turn : Turn list t out₀ i n out table reached e) where
   abbrev b : Body
   b = bodyIn table
 
   pub held : Running list out₀ i out (bodyIn table) n
-  held = subst (λ (x : Body). Running list out₀ i out x n) (settled table told (turn .all)) (turn .now)
+  held = subst (λ (x : Body). Running list out₀ i out x n) (settled table reached (turn .all)) (turn .now)
 
   pub in-range : Ready (bodyIn table)
   in-range = ready out₀ (turn .runs) held
@@ -219,5 +219,5 @@ pub same-body : {list out₀ : List ℕ} {i n : ℕ} {out : List ℕ} {x y : Bod
 same-body {list} {out₀} {i} {n} {out} e r = subst (λ (b : Body). Running list out₀ i out b n) (sym e) r
 
 -- A table whose nodes have all heard.
-pub unposted : {list out₀ : List ℕ} {i n : ℕ} {out : List ℕ} (table : Table) (told : ℕ) → told ≡ table .count → Running list out₀ i out (bodyIn table) n → Running list out₀ i out (pending table told) n
-unposted table told all r = same-body (settled table told all) r
+pub unposted : {list out₀ : List ℕ} {i n : ℕ} {out : List ℕ} (table : Table) (reached : ℕ) → reached ≡ table .count → Running list out₀ i out (bodyIn table) n → Running list out₀ i out (pending table reached) n
+unposted table reached all r = same-body (settled table reached all) r

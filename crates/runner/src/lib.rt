@@ -57,23 +57,23 @@ fn keep(out: &mut [u8], count: usize, writes: u16, entry: Entry) -> u16
 }
 
 // Runs all records. Gives the number of writes. The state stays in one local that every step stores into where it stands: a function that took the
-// state would copy it. So a post, too, is a turn of this loop for each node: `told` is how many have heard of the service's mastership.
+// state would copy it. So a post, too, is a turn of this loop for each node: `reached` is how many have heard of the service's mastership.
 fn run_records(list: &[u8], trailer: Trailer, out: &mut [u8]) -> u16
     requires { ⌜ Runs (now list) trailer (length (now out)) ⌝ }
     ensures { λ r. ⌜ (r ≡ length (wholeRun (now (list .entry)) .state .history))
         × (now (out .exit) ≡ over (wholeRun (now (list .entry)) .answer ++ historyBytes (wholeRun (now (list .entry)) .state .history)) (now (out .entry))) ⌝ }
 {
     let mut table = fresh_table(trailer.nodes);
-    let mut told = trailer.nodes;
+    let mut reached = trailer.nodes;
     let mut writes: u16 = 0;
     let mut i: usize = 0;
     while i < trailer.count {
-        if told < table.count {
-            let at = told as usize;
+        if reached < table.count {
+            let at = reached as usize;
             let node = table.nodes[at];
             let service = table.service;
             table.nodes[at] = service::hear(node, service);
-            told += 1;
+            reached += 1;
             continue;
         }
         let event = lists::read_record(list, trailer.first, i);
@@ -127,7 +127,7 @@ fn run_records(list: &[u8], trailer: Trailer, out: &mut [u8]) -> u16
             let next = turns::service_after(ask, service);
             table.service = next;
             if turns::posts(ask, service) {
-                told = 0;
+                reached = 0;
             }
             continue;
         }

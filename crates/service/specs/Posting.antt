@@ -86,11 +86,11 @@ module _ (count : ℕ) (nodes : List Node) (o : OrderedNodes count nodes) where
   row i h = ap (λ (l : List Node). getD l i pastNode) (sym (o .same)) ∙ table-get mostNodes (nodeRow events (column learnedAt count nodes) (column saysAt count nodes)) i pastNode h
 
   module _ (m : Mastership) (k : OrderedMastership m) (r : roomAll (column eventsAt count nodes) ≡ true) where
-    told : List (List S.Mastership)
-    told = map (push (holdMastership m)) events
+    afterPost : List (List S.Mastership)
+    afterPost = map (push (holdMastership m)) events
 
-    heard-row : (i : ℕ) → i < count → hears m (getD nodes i pastNode) ≡ nodeRow told (column learnedAt count nodes) (column saysAt count nodes) i
-    unfolding told events
+    heard-row : (i : ℕ) → i < count → hears m (getD nodes i pastNode) ≡ nodeRow afterPost (column learnedAt count nodes) (column saysAt count nodes) i
+    unfolding afterPost events
     heard-row i h =
         let f = o .few in
         let q = getD nodes i pastNode .events in
@@ -98,14 +98,14 @@ module _ (count : ℕ) (nodes : List Node) (o : OrderedNodes count nodes) where
         let e : getD (column eventsAt count nodes) i [] ≡ holdEvents q = column-at eventsAt count i nodes pastNode h in
         let n = events-length in
         let full : leb queueLength (q .len) ≡ false = not-true (leb queueLength (q .len)) (sym (room-of q oq) ∙ ap room (sym e) ∙ rooms-at (column eventsAt count nodes) i (omega arith) r) in
-        let pushed : pushEvent q m ≡ packEvents (getD told i []) =
+        let pushed : pushEvent q m ≡ packEvents (getD afterPost i []) =
         ap (pushEvent q) (sym (k .same)) ∙ push-events q (holdMastership m) oq full
         ∙ ap packEvents (ap (push (holdMastership m)) (sym e) ∙ sym (at-map (push (holdMastership m)) (column eventsAt count nodes) i [] [] (omega arith))) in
         let same = row i (omega arith) in
         λ j. record { events = pushed j; learned = same j .learned; says = same j .says }
 
-    still-row : (i : ℕ) → i < mostNodes → count ≤ i → getD nodes i pastNode ≡ nodeRow told (column learnedAt count nodes) (column saysAt count nodes) i
-    unfolding told events
+    still-row : (i : ℕ) → i < mostNodes → count ≤ i → getD nodes i pastNode ≡ nodeRow afterPost (column learnedAt count nodes) (column saysAt count nodes) i
+    unfolding afterPost events
     still-row i h c =
         let n = events-length in
         row i h
@@ -114,12 +114,12 @@ module _ (count : ℕ) (nodes : List Node) (o : OrderedNodes count nodes) where
         ∙ sym (List·getD-eq-default (map (push (holdMastership m)) (column eventsAt count nodes)) [] (rw (length-map (column eventsAt count nodes) (push (holdMastership m))) (omega arith))))
 
     pub all-heard : mapFirst (hears m) count nodes ≡ storeEvents (map (push (holdMastership m)) (column eventsAt count nodes)) count nodes
-    unfolding packNodes told events
+    unfolding packNodes afterPost events
     all-heard =
         let n = node-rows in
-        table-of mostNodes (nodeRow told (column learnedAt count nodes) (column saysAt count nodes)) (mapFirst (hears m) count nodes) pastNode
+        table-of mostNodes (nodeRow afterPost (column learnedAt count nodes) (column saysAt count nodes)) (mapFirst (hears m) count nodes) pastNode
         (mapFirst-length (hears m) count nodes ∙ n) (λ i h. go i h (decLt i count))
       where
-        go : (i : ℕ) → i < mostNodes → Dec (i < count) → getD (mapFirst (hears m) count nodes) i pastNode ≡ nodeRow told (column learnedAt count nodes) (column saysAt count nodes) i
+        go : (i : ℕ) → i < mostNodes → Dec (i < count) → getD (mapFirst (hears m) count nodes) i pastNode ≡ nodeRow afterPost (column learnedAt count nodes) (column saysAt count nodes) i
         go i h (yes k) = mapFirst-in (hears m) count i nodes pastNode k (let n = node-rows in omega arith) ∙ heard-row i k
         go i h (no k) = mapFirst-out (hears m) count i nodes pastNode (omega arith) ∙ still-row i h (omega arith)

@@ -13,7 +13,7 @@ ghost use Rattle.parts.specs.Hold.{packStatus, packRequest, packResponse, holdR
 ghost use Rattle.state.specs.Hold.{idAt, openAt, responsesAt};
 ghost use Rattle.state.specs.Order.{OrderedStream};
 ghost use Rattle.streams.specs.Asks.{IsNode, OrderedRows, HasHead};
-ghost use Rattle.streams.specs.Does.{told, withoutHead, tellRow, waiting};
+ghost use Rattle.streams.specs.Does.{responded, withoutHead, tellRow, waiting};
 use parts::ElectionId;
 use parts::Message;
 use parts::Request;
@@ -138,8 +138,8 @@ fn news_for(node: u8, master: u8, top: ElectionId) -> Response
 }
 
 // The response goes last.
-pub fn tell(stream: Stream, response: Response) -> Stream
-    ensures { λ r. ⌜ r ≡ told response stream ⌝ }
+pub fn respond(stream: Stream, response: Response) -> Stream
+    ensures { λ r. ⌜ r ≡ responded response stream ⌝ }
 {
     let responses = stream.responses;
     let mut next = stream;
@@ -150,10 +150,10 @@ pub fn tell(stream: Stream, response: Response) -> Stream
 // The node alone is told.
 pub fn tell_one(count: u8, node: u8, ids: [ElectionId; 8], stream: Stream) -> Stream
     requires { ⌜ count ≤ mostNodes ⌝ }
-    ensures { λ r. ⌜ r ≡ told (packResponse (news (column idAt count ids) node)) stream ⌝ }
+    ensures { λ r. ⌜ r ≡ responded (packResponse (news (column idAt count ids) node)) stream ⌝ }
 {
     let response = news_for(node, master_of(count, ids), largest_id(count, ids));
-    tell(stream, response)
+    respond(stream, response)
 }
 
 // Whether every open stream has room to be told.
@@ -188,7 +188,7 @@ pub fn tell_all(count: u8, ids: [ElectionId; 8], streams: [Stream; 8]) -> [Strea
         let i = u32::trailing_zeros(left) as usize;
         let stream = next[i];
         let response = news_for((i + 1) as u8, master, top);
-        next[i] = tell(stream, response);
+        next[i] = respond(stream, response);
         left = left & (left - 1);
     }
     next

@@ -9,7 +9,7 @@ use lib.ListN.{length, getD, set}
 use lib.Seq.{getD-set-same, getD-set-other}
 use Rattle.rules.specs.Limits.{mostNodes}
 use Rattle.rules.specs.State as S
-use Rattle.rules.specs.Parts.{Telling, Told, tellPart}
+use Rattle.rules.specs.Parts.{Telling, tellPart}
 use Rattle.seqs.specs.Columns.{length-column}
 use Rattle.seqs.specs.Tables.{table-get, table-set, table-length}
 use Rattle.state.specs.Hold.{holdBoard, packStream, packStreams, packClaims, streamRow, idRow, termRow, openAt, sentAt, requestsAt, responsesAt, idAt, termAt}
@@ -18,10 +18,7 @@ use Rattle.state.specs.declared.Stream.{Stream}
 use Rattle.state.specs.declared.Claims.{Claims}
 use Rattle.switch.specs.Does.{withClaim}
 
--- What the rules read of a board, and the board with what they write of node n.
-abbrev pub told : ℕ → S.Board → Told
-told n w = tellPart n .get (record { running = true; history = []; board = w })
-
+-- The board with what the rules write of node n.
 abbrev pub put : ℕ → Telling → S.Board → S.Board
 put n x w = tellPart n .put x (record { running = true; history = []; board = w }) .board
 

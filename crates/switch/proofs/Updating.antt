@@ -31,7 +31,7 @@ use Rattle.state.specs.declared.Stream.{Stream}
 use Rattle.state.specs.declared.Claims.{Claims}
 use Rattle.state.specs.declared.Board.{Board}
 use Rattle.streams.specs.Asks.{HasHead}
-use Rattle.streams.specs.Does.{told, withoutHead, able, tellRow, waiting}
+use Rattle.streams.specs.Does.{responded, withoutHead, able, tellRow, waiting}
 use Rattle.streams.proofs.Answers.{answer-by, byTests, clear}
 use Rattle.streams.proofs.Waiting.{Ready, ready, running-too, message, update-waits, no-update-waits}
 use Rattle.switch.specs.Asks.{AtBoard, UpdateAt}
@@ -224,7 +224,7 @@ module _ {count n : ℕ} {streams : List Stream} {claims : Claims} (u : UpdateAt
 
   -- the master stays, and only n is told
   pub updated-one : shifts ≡ false → updateRoom n v ≡ true
-      → record { streams = set streams (n - 1) (told (packResponse (news (idsWith n v) n)) (withoutHead r)); claims = claimsThen }
+      → record { streams = set streams (n - 1) (responded (packResponse (news (idsWith n v) n)) (withoutHead r)); claims = claimsThen }
       ≡ storeTelling n (updated n v) count streams claims
   unfolding updated storeTelling
   updated-one e f =
@@ -234,8 +234,8 @@ module _ {count n : ℕ} {streams : List Stream} {claims : Claims} (u : UpdateAt
       let responses = set (w .responses) (n - 1) pushed in
       let b : n - 1 < length (w .responses) = let k = s .responses in let j = lt in omega arith in
       let space : room q ≡ true = ap room (responses-at h) ∙ sym (room-one e) ∙ f in
-      let x : told (packResponse (news (idsWith n v) n)) (withoutHead r) ≡ packStream true (v .sent) (rest (v .requests)) pushed =
-      ap (told (packResponse (news (idsWith n v) n))) without-head-is
+      let x : responded (packResponse (news (idsWith n v) n)) (withoutHead r) ≡ packStream true (v .sent) (rest (v .requests)) pushed =
+      ap (responded (packResponse (news (idsWith n v) n))) without-head-is
       ∙ (λ i. record {
         opened = true;
         sent = record { 0 = v .sent };

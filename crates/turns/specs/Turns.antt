@@ -62,8 +62,8 @@ abbrev pub quiet : Ask → Node → Claims → Stream → Row
 quiet a node claims stream = record { stream = stream; says = node .says; claims = claims; entry = record { accepted = false; node = a .number; term = record { 0 = 0 } } }
 
 -- Receive update: the flag too.
-abbrev pub toldRow : Ask → Node → Stream → Claims → Row
-toldRow a node stream claims = record {
+abbrev pub flaggedRow : Ask → Node → Stream → Claims → Row
+flaggedRow a node stream claims = record {
   stream = received stream;
   says = receiveUpdateRule (a .number) .effect (receiverOf (a .count) node stream) .says;
   claims = claims;
@@ -86,7 +86,7 @@ writtenRow a node stream claims = handledRow a node claims (storeHandled (handle
 abbrev pub rowAfter : Ask → Node → Stream → Claims → Row
 rowAfter a node stream claims =
     getD (quiet a node claims (storeSent (sendUpdateRule (a .number) .effect (senderOf (a .count) node stream)) stream)
-    ∷ toldRow a node stream claims
+    ∷ flaggedRow a node stream claims
     ∷ quiet a node claims (storeSent (sendWriteRule (a .number) .effect (senderOf (a .count) node stream)) stream)
     ∷ quiet a node claims (received stream)
     ∷ quiet a node claims (storeOpen true stream) ∷ []) (a .kind - 4)

@@ -8,7 +8,7 @@ ghost use Rattle.state.specs.Order.{OrderedNodes};
 ghost use Rattle.asks.specs.Classes.{existence};
 ghost use Rattle.nodes.specs.Waiting.{Waits};
 ghost use Rattle.writing.specs.Asks.{CanWrite};
-ghost use Rattle.turns.specs.Turns.{rowAnswer, deskAnswer, switchAnswer, boardAnswer, quiet, toldRow, writtenRow, rowAfter, serviceAfter, posting, boardAfter};
+ghost use Rattle.turns.specs.Turns.{rowAnswer, deskAnswer, switchAnswer, boardAnswer, quiet, flaggedRow, writtenRow, rowAfter, serviceAfter, posting, boardAfter};
 ghost use Rattle.turns.specs.Asks.{RowAsks, BoardAsks, RowGoes, DeskGoes, BoardGoes};
 use asks::Ask;
 use parts::Mastership;
@@ -126,9 +126,9 @@ fn quiet(ask: Ask, node: Node, claims: Claims, stream: Stream) -> Row
 }
 
 // Receive update: the flag too.
-fn told(ask: Ask, node: Node, stream: Stream, claims: Claims) -> Row
+fn flagged(ask: Ask, node: Node, stream: Stream, claims: Claims) -> Row
     requires { ⌜ Waits stream ⌝ }
-    ensures { λ r. ⌜ r ≡ toldRow ask node stream claims ⌝ }
+    ensures { λ r. ⌜ r ≡ flaggedRow ask node stream claims ⌝ }
 {
     let mut next = quiet(ask, node, claims, nodes::receive(stream));
     next.says = nodes::confirmed(ask.count, ask.number, node, stream);
@@ -172,7 +172,7 @@ pub fn row_after(ask: Ask, node: Node, stream: Stream, claims: Claims) -> Row
             claims,
             nodes::send_update(ask.count, ask.number, node, stream),
         ),
-        5 => told(ask, node, stream, claims),
+        5 => flagged(ask, node, stream, claims),
         6 => quiet(
             ask,
             node,

@@ -23,10 +23,10 @@ use Rattle.runner.proofs.run_records.Statement.{statement}
 use Rattle.runner.proofs.run_records.Tie as tie
 
 abbrev Inv-loop : tie.InvT-loop
-Inv-loop list trailer out₀ table₀ told₀ writes₀ i₀ out table told writes i = (i ≤ trailer .count) × (told ≤ table .count) × Running list out₀ i out (pending table told) writes
+Inv-loop list trailer out₀ table₀ reached₀ writes₀ i₀ out table reached writes i = (i ≤ trailer .count) × (reached ≤ table .count) × Running list out₀ i out (pending table reached) writes
 
 abbrev μ-loop : tie.MeasureT-loop
-μ-loop list trailer out₀ table₀ told₀ writes₀ i₀ out table told writes i = 16 * (trailer .count - i) + (table .count - told)
+μ-loop list trailer out₀ table₀ reached₀ writes₀ i₀ out table reached writes i = 16 * (trailer .count - i) + (table .count - reached)
 
 fresh-count : (n : ℕ) → fresh n .count ≡ n
 unfolding fresh
@@ -35,7 +35,7 @@ fresh-count n = refl
 few-nodes : (l : tie.At-loop Inv-loop μ-loop) → l .loop .table .count ≤ 8
 few-nodes l =
     let s = l .before .before .before .before in
-    few (pending (l .loop .table) (l .loop .told)) (ready (s .args .out .now) (s .pre) (l .loop .inv .2))
+    few (pending (l .loop .table) (l .loop .reached)) (ready (s .args .out .now) (s .pre) (l .loop .inv .2))
 
 long-as-lent : (l : tie.At-loop Inv-loop μ-loop) → length (l .loop .out) ≡ length (l .before .before .before .before .args .out .now)
 long-as-lent l =
@@ -43,8 +43,8 @@ long-as-lent l =
     let k = s .pre .trailer .count in
     keeps-length (s .args .out .now) (s .pre) (l .loop .inv .2) (omega arith)
 
-fewer : (count i nodes told : ℕ) → i < count → 16 * (count - (i + 1)) + (nodes - told) < 16 * (count - i) + (nodes - told)
-fewer count i nodes told h = omega arith
+fewer : (count i nodes reached : ℕ) → i < count → 16 * (count - (i + 1)) + (nodes - reached) < 16 * (count - i) + (nodes - reached)
+fewer count i nodes reached h = omega arith
 
 -- ---- a turn that reads a record
 
@@ -58,7 +58,7 @@ abbrev ask-of : tie.After-read-record Inv-loop μ-loop → Ask
 ask-of r = askOf (bodyIn (table-of r)) (event-of r .kind) (event-of r .node)
 
 turn : (r : tie.After-read-record Inv-loop μ-loop) → let l = r .before .before .before .before in let s = l .before .before .before .before in
-    Turn (s .args .list .now) (s .args .trailer) (s .args .out .now) (l .loop .i) (l .loop .writes) (l .loop .out) (table-of r) (l .loop .told) (event-of r)
+    Turn (s .args .list .now) (s .args .trailer) (s .args .out .now) (l .loop .i) (l .loop .writes) (l .loop .out) (table-of r) (l .loop .reached) (event-of r)
 turn r =
     let l = r .before .before .before .before in
     let s = l .before .before .before .before in
@@ -138,8 +138,8 @@ element-set-from-table c =
     let f = few-nodes (c .before .before .before .before .before .before) in
     omega arith
 
-add-told : tie.Need-add-told Inv-loop μ-loop
-add-told c =
+add-reached : tie.Need-add-reached Inv-loop μ-loop
+add-reached c =
     let f = few-nodes (c .before .before .before .before .before .before) in
     omega arith
 
@@ -151,7 +151,7 @@ loop-less c =
 loop-again : tie.Need-loop-again Inv-loop μ-loop
 loop-again c =
     let l = c .before .before .before .before .before .before in
-    let same = heard (l .loop .table) (l .loop .told) (c .hear .result) (c .hear .ensures) (omega arith) in
+    let same = heard (l .loop .table) (l .loop .reached) (c .hear .result) (c .hear .ensures) (omega arith) in
     (l .loop .inv .0, omega arith, same-body same (l .loop .inv .2))
 
 read-record-requires : tie.Need-read-record-requires Inv-loop μ-loop
@@ -328,7 +328,7 @@ loop-less-4 : tie.Need-loop-less-4 Inv-loop μ-loop
 loop-less-4 c =
     let r = c .before .before .before .before .before .before .before .before .before .before .before .before .before .before .before .before .before .before .before .before in
     let l = r .before .before .before .before in
-    fewer (l .before .before .before .before .args .trailer .count) (l .loop .i) (l .loop .table .count) (l .loop .told) (r .before .before .if1 .taken)
+    fewer (l .before .before .before .before .args .trailer .count) (l .loop .i) (l .loop .table .count) (l .loop .reached) (r .before .before .if1 .taken)
 
 loop-again-4 : tie.Need-loop-again-4 Inv-loop μ-loop
 loop-again-4 c =
@@ -435,7 +435,7 @@ run-records-spec =
     hear-requires
     mul-t40
     element-set-from-table
-    add-told
+    add-reached
     loop-less
     loop-again
     read-record-requires

@@ -17,7 +17,7 @@ use Rattle.state.specs.Hold.{idAt, openAt}
 use Rattle.state.specs.declared.Claims.{Claims}
 use Rattle.state.specs.declared.Stream.{Stream}
 use Rattle.state.specs.declared.Board.{Board}
-use Rattle.streams.specs.Does.{told, tellRow}
+use Rattle.streams.specs.Does.{responded, tellRow}
 use Rattle.switch.specs.Does.{withClaim}
 use Rattle.switch.proofs.Updating.{has-head, head-is, shifts, ids-then, claimsThen, updated-all, updated-one}
 use Rattle.switch.proofs.updated.Statement.{statement}
@@ -98,7 +98,7 @@ returns-2 : tie.Need-returns-2
 returns-2 c =
     let start = c .before .before .before .before .before .before .before .before .before .before .before in
     ap₂ {C = Board} (λ (r : Stream) (k : Claims). record { streams = set (start .args .t3) (start .args .node - 1) r; claims = k })
-    (c .tell-one .ensures ∙ ap₂ (λ (l : List ℕ) (r : Stream). told (packResponse (news l (start .args .node))) r) (ap (λ (k : Claims). column idAt (start .args .count) (k .ids)) (claimed (c .before .before .before .before .before .before)) ∙ ids-then (start .pre .head)) (c .before .before .before .without-head .ensures))
+    (c .tell-one .ensures ∙ ap₂ (λ (l : List ℕ) (r : Stream). responded (packResponse (news l (start .args .node))) r) (ap (λ (k : Claims). column idAt (start .args .count) (k .ids)) (claimed (c .before .before .before .before .before .before)) ∙ ids-then (start .pre .head)) (c .before .before .before .without-head .ensures))
     (claimed (c .before .before .before .before .before .before))
     ∙ updated-one (start .pre .head) (shifts-so (c .before .before) _ (c .before .if1 .left)) (start .pre .roomy)
 

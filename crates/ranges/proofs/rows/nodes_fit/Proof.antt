@@ -7,7 +7,7 @@ use borrow.Author.Needs.{needs}
 use Rattle.rules.specs.Range.{each}
 use Rattle.state.specs.Order.{pastNode}
 use Rattle.queues.specs.Tests.{place}
-use Rattle.queues.specs.Each.{told, each-more, each-not}
+use Rattle.queues.specs.Each.{from-result, each-more, each-not}
 use Rattle.ranges.specs.Tests.{nodeTest, blankNodeTest, nodesTest}
 use Rattle.ranges.proofs.rows.nodes_fit.Statement.{statement}
 use Rattle.ranges.proofs.rows.nodes_fit.Tie as tie
@@ -45,7 +45,7 @@ loop-again c =
     let turn = c .before .before .before .before in
     let a = turn .before .args in
     let p = place (nodeTest (a .count)) blankNodeTest pastNode (a .t2 .nodes) (a .count) in
-    (omega arith, each-more p (turn .loop .i) (turn .loop .inv .1) (told (c .before .node-place-fits .ensures) (c .if1 .taken)))
+    (omega arith, each-more p (turn .loop .i) (turn .loop .inv .1) (from-result (c .before .node-place-fits .ensures) (c .if1 .taken)))
 
 returns : tie.Need-returns Inv-loop μ-loop
 unfolding nodesTest
@@ -53,7 +53,7 @@ returns c =
     let turn = c .before .before .before .before in
     let a = turn .before .args in
     let p = place (nodeTest (a .count)) blankNodeTest pastNode (a .t2 .nodes) (a .count) in
-    sym (each-not p 8 (turn .loop .i) (omega arith) (told (c .before .node-place-fits .ensures) (c .if1 .left)))
+    sym (each-not p 8 (turn .loop .i) (omega arith) (from-result (c .before .node-place-fits .ensures) (c .if1 .left)))
 
 returns-2 : tie.Need-returns-2 Inv-loop μ-loop
 unfolding nodesTest

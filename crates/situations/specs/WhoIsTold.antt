@@ -49,8 +49,8 @@ restarted = record {
   ends = last 4 ∷ history (by 1 4 ∷ []) ∷ isOpen 1 false ∷ id 1 0 ∷ [];
 }
 
-abbrev pub told : List Situation
-told =
+abbrev pub whoIsTold : List Situation
+whoIsTold =
     -- 10: where the master stays, only node 3 is told, with the largest id
     tells (HandleUpdate 3) 5 0 3 [] [] (isNot 5 ∷ []) (id 3 3 ∷ [])
     ∷ tells (HandleUpdate 3) 3 5 4 [] [] (isMaster 4 ∷ []) (id 3 4 ∷ [])

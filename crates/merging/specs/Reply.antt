@@ -19,17 +19,17 @@ twoBytes n = n % 256 ∷ n / 256 % 256 ∷ []
 abbrev pub placeBytes : Finding → List ℕ
 placeBytes f = twoBytes (f .p) ++ twoBytes (f .q) ++ twoBytes (f .r) ++ twoBytes (f .s)
 
-pub record Told : Type 0 where
+pub record Reply : Type 0 where
   pub returned : ℕ
   pub places : List ℕ
 
 -- A verdict comes with places; the bytes after them stay.
-abbrev pub given : Finding → List ℕ → Told
+abbrev pub given : Finding → List ℕ → Reply
 given f out = record { returned = f .verdict; places = cond (leb 256 (f .verdict)) (over (placeBytes f) out) out }
 
 -- Lower numbers first.
-unfoldable pub told : List ℕ → List ℕ → List ℕ → Told
-told first second out =
+unfoldable pub reply : List ℕ → List ℕ → List ℕ → Reply
+reply first second out =
     cond (leb placesLength (length out))
     (given (compared first second) out)
     (record { returned = cond (eqb (refusal first) 0) outTooShort (refusal first); places = out })

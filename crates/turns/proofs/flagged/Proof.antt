@@ -1,9 +1,9 @@
--- `told` meets its contract. Assumes nothing.
+-- `flagged` meets its contract. Assumes nothing.
 use mathlib.Core.Path.{ap, _∙_}
 use borrow.Author.Needs.{needs}
 use Rattle.turns.specs.Turns.{quiet}
-use Rattle.turns.proofs.told.Statement.{statement}
-use Rattle.turns.proofs.told.Tie as tie
+use Rattle.turns.proofs.flagged.Statement.{statement}
+use Rattle.turns.proofs.flagged.Tie as tie
 
 receive-requires : tie.Need-receive-requires
 receive-requires c κs = search needs
@@ -21,5 +21,5 @@ returns c =
     let made = at-quiet .quiet .ensures ∙ ap (quiet (start .args .ask) (start .args .node) (start .args .claims)) (at-quiet .before .receive .ensures) in
     λ i. record { stream = made i .stream; says = c .confirmed .ensures i; claims = made i .claims; entry = made i .entry }
 
-pub told-spec : {M : Type 1} → statement M
-told-spec = tie.close (tie.spec receive-requires quiet-requires confirmed-requires returns)
+pub flagged-spec : {M : Type 1} → statement M
+flagged-spec = tie.close (tie.spec receive-requires quiet-requires confirmed-requires returns)

@@ -13,7 +13,7 @@ use Rattle.lists.specs.EventList.{refusal, over}
 use Rattle.lists.specs.Written.{over-more}
 use Rattle.comparing.specs.declared.Finding.{Finding}
 use Rattle.comparing.specs.Compared.{compared}
-use Rattle.merging.specs.Told.{placesLength, twoBytes, placeBytes, Told, given, told}
+use Rattle.merging.specs.Reply.{placesLength, twoBytes, placeBytes, Reply, given, reply}
 
 -- ---- the bytes
 
@@ -36,25 +36,25 @@ four-places f l h =
 
 module _ (first second out : List ℕ) where
   module _ (short : length out < placesLength) where
-    pub told-short : refusal first ≡ 0 → told first second out ≡ record { returned = outTooShort; places = out }
-    unfolding told
-    told-short h = simp (lt-leb placesLength (length out) short, eq-eqb (refusal first) 0 h)
+    pub reply-short : refusal first ≡ 0 → reply first second out ≡ record { returned = outTooShort; places = out }
+    unfolding reply
+    reply-short h = simp (lt-leb placesLength (length out) short, eq-eqb (refusal first) 0 h)
 
-    pub told-first : refusal first ≢ 0 → told first second out ≡ record { returned = refusal first; places = out }
-    unfolding told
-    told-first h = simp (lt-leb placesLength (length out) short, ne-eqb (refusal first) 0 h)
+    pub reply-first : refusal first ≢ 0 → reply first second out ≡ record { returned = refusal first; places = out }
+    unfolding reply
+    reply-first h = simp (lt-leb placesLength (length out) short, ne-eqb (refusal first) 0 h)
 
   module _ (long : placesLength ≤ length out) where
-    long-told : told first second out ≡ given (compared first second) out
-    unfolding told
-    long-told = simp (le-leb placesLength (length out) long)
+    long-reply : reply first second out ≡ given (compared first second) out
+    unfolding reply
+    long-reply = simp (le-leb placesLength (length out) long)
 
-    pub told-places : 256 ≤ compared first second .verdict → told first second out ≡ record { returned = compared first second .verdict; places = over (placeBytes (compared first second)) out }
-    told-places h = long-told ∙ simp (le-leb 256 (compared first second .verdict) h)
+    pub reply-places : 256 ≤ compared first second .verdict → reply first second out ≡ record { returned = compared first second .verdict; places = over (placeBytes (compared first second)) out }
+    reply-places h = long-reply ∙ simp (le-leb 256 (compared first second .verdict) h)
 
-    pub told-refused : compared first second .verdict < 256 → told first second out ≡ record { returned = compared first second .verdict; places = out }
-    told-refused h = long-told ∙ simp (lt-leb 256 (compared first second .verdict) h)
+    pub reply-refused : compared first second .verdict < 256 → reply first second out ≡ record { returned = compared first second .verdict; places = out }
+    reply-refused h = long-reply ∙ simp (lt-leb 256 (compared first second .verdict) h)
 
 -- What is returned and the places, each by itself.
-pub told-both : {t u : Told} → t ≡ u → (u .returned ≡ t .returned) × (u .places ≡ t .places)
-told-both e = (ap (λ (x : Told). x .returned) (sym e), ap (λ (x : Told). x .places) (sym e))
+pub reply-both : {t u : Reply} → t ≡ u → (u .returned ≡ t .returned) × (u .places ≡ t .places)
+reply-both e = (ap (λ (x : Reply). x .returned) (sym e), ap (λ (x : Reply). x .places) (sym e))
