@@ -53,14 +53,14 @@ record Element (A B : Type 0) : Type 1 where
 -- The places are what they hold, written.
 record Places {A B : Type 0} (e : Element A B) (size : ℕ) (l : List B) (len : ℕ) : Type 0 where
   items : padded (e .blank) (e .rep) size (map (e .hold) (take len l)) ≡ l
-  count : length (map (e .hold) (take len l)) ≡ len
+  len : length (map (e .hold) (take len l)) ≡ len
 
 module _ {A B : Type 0} (e : Element A B) (size : ℕ) (l : List B) (sized : length l ≡ size) (known : All (e .Known) l) where
   places-same : (len : ℕ) → T (tidyPlaces size (e .tidy) (e .isBlank) l len) → Places e size l len
   unfolding tidyPlaces
   places-same len t = let h = (is-le len size & as-is (all (e .tidy) (take len l)) & as-is (all (e .isBlank) (drop len l))) .to t in let z : len ≤ size = h .0 .0 in record {
     items = padded-same (e .blank) (e .rep) (e .hold) size len l sized (all-known (e .tidy) (e .same) (take len l) (all-take (e .Known) len l known) (h .0 .1)) (all-known (e .isBlank) (e .none) (drop len l) (all-drop (e .Known) len l known) (h .1));
-    count = length-map (take len l) (e .hold) ∙ length-take-le len l (omega arith);
+    len = length-map (take len l) (e .hold) ∙ length-take-le len l (omega arith);
   }
 
   -- All places are blank.
@@ -82,20 +82,20 @@ all-zero l t = is-all (λ x. is-eq x 0) l .to t
 
 pub mastership-same : (m : Mastership) → SizedMastership m → T (tidyMastership m) → packMastership (holdMastership m) ≡ m
 unfolding tidyMastership
-mastership-same m h t = let k = (is-le (m .count) 7 & as-is (all isZero (drop (m .count) (m .backups)))) .to t in λ i. record {
+mastership-same m h t = let k = (is-le (m .len) 7 & as-is (all isZero (drop (m .len) (m .backups)))) .to t in λ i. record {
   term = m .term;
   master = m .master;
-  backups = (ap (padded 0 asIs 7) (sym (as-is-all (take (m .count) (m .backups)))) ∙ padded-same 0 asIs asIs 7 (m .count) (m .backups) h (all-refl (take (m .count) (m .backups))) (all-zero (drop (m .count) (m .backups)) (k .1))) i;
-  count = length-take-le (m .count) (m .backups) (let z : m .count ≤ 7 = k .0 in omega arith) i;
+  backups = (ap (padded 0 asIs 7) (sym (as-is-all (take (m .len) (m .backups)))) ∙ padded-same 0 asIs asIs 7 (m .len) (m .backups) h (all-refl (take (m .len) (m .backups))) (all-zero (drop (m .len) (m .backups)) (k .1))) i;
+  len = length-take-le (m .len) (m .backups) (let z : m .len ≤ 7 = k .0 in omega arith) i;
 }
 
 pub mastership-none : (m : Mastership) → SizedMastership m → T (blankMastership m) → m ≡ noMastership
 unfolding blankMastership
-mastership-none m h t = let k = (is-eq (m .term .0) 0 & is-eq (m .master) 0 & as-is (all isZero (m .backups)) & is-eq (m .count) 0) .to t in λ i. record {
+mastership-none m h t = let k = (is-eq (m .term .0) 0 & is-eq (m .master) 0 & as-is (all isZero (m .backups)) & is-eq (m .len) 0) .to t in λ i. record {
   term = record { 0 = k .0 .0 .0 i };
   master = k .0 .0 .1 i;
   backups = sym (padded-same 0 asIs asIs 7 0 (m .backups) h tt (all-zero (m .backups) (k .0 .1))) i;
-  count = k .1 i;
+  len = k .1 i;
 }
 
 abbrev mastership : Element S.Mastership Mastership
@@ -198,7 +198,7 @@ node-same r k t =
     let q = r .events in
     let h = (as-is (tidyPlaces queueLength tidyMastership blankMastership (q .items) (q .len)) & as-is (tidyMastership (r .learned))) .to t in
     let events = places-same mastership queueLength (q .items) (k .events) (k .items) (q .len) (h .0) in
-    λ i. record { events = record { items = events .items i; len = events .count i }; learned = mastership-same (r .learned) (k .learned) (h .1) i; says = r .says }
+    λ i. record { events = record { items = events .items i; len = events .len i }; learned = mastership-same (r .learned) (k .learned) (h .1) i; says = r .says }
 
 node-none : (r : Node) → SizedNode r → T (blankNode r) → r ≡ packNode [] S.blank false
 unfolding blankNode
@@ -222,8 +222,8 @@ stream-same r k t =
     λ i. record {
       opened = r .opened;
       sent = r .sent;
-      requests = record { items = requests .items i; len = requests .count i };
-      responses = record { items = responses .items i; len = responses .count i };
+      requests = record { items = requests .items i; len = requests .len i };
+      responses = record { items = responses .items i; len = responses .len i };
     }
 
 stream-none : (r : Stream) → SizedStream r → T (blankStream r) → r ≡ packStream false 0 [] []
@@ -304,7 +304,7 @@ aWrite = record {
 
 history-same : (h : History) → length (h .items) ≡ historyLength → T (tidyHistory h) → packHistory (holdHistory h) ≡ h
 unfolding packHistory holdHistory tidyHistory
-history-same h e t = let p = places-same aWrite historyLength (h .items) e (all-any (h .items)) (h .len) t in λ i. record { items = p .items i; len = p .count i }
+history-same h e t = let p = places-same aWrite historyLength (h .items) e (all-any (h .items)) (h .len) t in λ i. record { items = p .items i; len = p .len i }
 
 -- ---- the state
 

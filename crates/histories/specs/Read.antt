@@ -68,9 +68,9 @@ held list out accepted =
     let r = completed t out in
     let b = historyBytes (t .state .history) in
     let rest = drop (length (t .answer ++ b)) out in
-    let count : writesReturned r ≡ length (t .state .history) = omega arith in
+    let kept : writesReturned r ≡ length (t .state .history) = omega arith in
     let part : historyPart list r ≡ b ++ rest = ap (drop (recordCount list)) (append-assoc (t .answer) b rest) ∙ drop-at (t .answer) (b ++ rest) (recordCount list) (all-answered list (good list accepted)) in
-    ap₂ (λ (n : ℕ) (l : List ℕ). table n (entryAt l)) count part ∙ writes-read (t .state .history) rest
+    ap₂ (λ (n : ℕ) (l : List ℕ). table n (entryAt l)) kept part ∙ writes-read (t .state .history) rest
 
 -- ---- the statements
 

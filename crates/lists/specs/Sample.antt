@@ -25,12 +25,12 @@ pub listed-records : records listed ≡ event 1 1 ∷ event 3 1 ∷ event 8 1 �
 unfolding numberAt
 listed-records = refl
 
--- Twelve bytes with count 0 are accepted.
+-- Twelve bytes with no record are accepted.
 pub empty-good : refusal (0 ∷ 0 ∷ 0 ∷ 0 ∷ 0 ∷ 0 ∷ 0 ∷ 0 ∷ 1 ∷ 0 ∷ 77 ∷ 65 ∷ []) ≡ 0
 unfolding refusal numberAt within
 empty-good = refl
 
--- A count of 2^31 fits only modulo 2^32.
+-- 2^31 records fit only modulo 2^32.
 pub wrapped-sum : refusal (0 ∷ 0 ∷ 0 ∷ 0 ∷ 0 ∷ 0 ∷ 0 ∷ 128 ∷ 1 ∷ 0 ∷ 77 ∷ 65 ∷ []) ≡ badExtent
 unfolding refusal numberAt within
 wrapped-sum = refl

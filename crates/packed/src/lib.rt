@@ -6,14 +6,14 @@ ghost use Rattle.packed.specs.Bytes.{little, flag, numberBytes, flagByte
 use update::Raw;
 
 // The low bytes of a number, the least first.
-fn put_little(buf: &mut [u8], at: usize, count: usize, v: u64) -> usize
-    requires { ⌜ Room (now buf) at (little count v) ⌝ }
-    ensures { λ r. ⌜ Put (now (buf .entry)) at (little count v) (now (buf .exit)) r ⌝ }
+fn put_little(buf: &mut [u8], at: usize, size: usize, v: u64) -> usize
+    requires { ⌜ Room (now buf) at (little size v) ⌝ }
+    ensures { λ r. ⌜ Put (now (buf .entry)) at (little size v) (now (buf .exit)) r ⌝ }
 {
     let mut next = at;
     let mut left = v;
     let mut i: usize = 0;
-    while i < count {
+    while i < size {
         buf[next] = (left % 256) as u8;
         left = left / 256;
         next += 1;

@@ -79,7 +79,7 @@ pub struct Mastership {
     pub term: Term,
     pub master: u8,
     pub backups: [u8; 7],
-    pub count: u8,
+    pub len: u8,
 }
 
 impl Mastership {
@@ -90,7 +90,7 @@ impl Mastership {
             term: Term(0),
             master: 0,
             backups: [0u8; 7],
-            count: 0,
+            len: 0,
         }
     }
 
@@ -104,7 +104,7 @@ impl Mastership {
         let mut i: u8 = 0;
         while i < 7 {
             let at = i as usize;
-            if self.count <= i {
+            if self.len <= i {
                 return i + 1;
             }
             if self.backups[at] == node {
@@ -123,7 +123,7 @@ impl Mastership {
         if 7 < place {
             return false;
         }
-        place <= self.count
+        place <= self.len
     }
 }
 

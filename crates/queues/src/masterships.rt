@@ -35,7 +35,7 @@ fn backup_fits(count: u8, m: Mastership, i: u8, b: u8) -> bool
     requires { ⌜ i < 7 ⌝ }
     ensures { λ r. ⌜ r ≡ backupAt count m i b ⌝ }
 {
-    if m.count <= i {
+    if m.len <= i {
         return b == 0;
     }
     if is_node(count, b) {
@@ -47,7 +47,7 @@ fn backup_fits(count: u8, m: Mastership, i: u8, b: u8) -> bool
 fn backups_fit(count: u8, m: Mastership) -> bool
     ensures { λ r. ⌜ r ≡ backupsTest count m ⌝ }
 {
-    if 7 < m.count {
+    if 7 < m.len {
         return false;
     }
     let mut i: u8 = 0;

@@ -41,7 +41,7 @@ no-event m t = nobody (m .master) ((as-is (within 1 topTerm (m .term .0)) & as-i
 
 no-term : (m : Mastership) → T (blankMastership m) → m .term .0 ≡ 0
 unfolding blankMastership
-no-term m t = (is-eq (m .term .0) 0 & as-is (isZero (m .master)) & as-is (all isZero (m .backups)) & as-is (isZero (m .count))) .to t .0 .0 .0
+no-term m t = (is-eq (m .term .0) 0 & as-is (isZero (m .master)) & as-is (all isZero (m .backups)) & as-is (isZero (m .len))) .to t .0 .0 .0
 
 is-unlearned : (m : Mastership) → SizedMastership m → Is (learnedTest 0 m) (T (blankMastership m))
 unfolding learnedTest

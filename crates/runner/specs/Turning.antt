@@ -157,11 +157,11 @@ module _ {list : List ℕ} {t : Trailer} {out₀ : List ℕ} {i n : ℕ} {out : 
       own : r .entry .node ≡ e .node
       own = ap (λ (x : Row). x .entry .node) f ∙ row-entry b (e .node) (at-row y) (e .kind) (row-of y) h
 
-      pub row-way : {out′ : List ℕ} → out′ ≡ sets (set out i code) (t .count + 4 * n) (historyBytes (ifAccepted (r .entry .accepted) (record { node = r .entry .node; term = r .entry .term .0 })))
+      pub row-way : {out′ : List ℕ} → out′ ≡ sets (set out i code) (t .records + 4 * n) (historyBytes (ifAccepted (r .entry .accepted) (record { node = r .entry .node; term = r .entry .term .0 })))
           → {n′ : ℕ} → n′ ≡ n + length (ifAccepted (r .entry .accepted) (record { node = r .entry .node; term = r .entry .term .0 }))
           → Running list out₀ (i + 1) out′ (rowBody (bodyIn table) (e .node) r) n′
       row-way p q = goes-on out₀ (turn .runs) held (turn .is) row-left (turn .lt)
-          (p ∙ ap (λ (j : ℕ). sets (set out i j) (t .count + 4 * n) (historyBytes (written (r .entry .node)))) z ∙ ap (λ (j : ℕ). sets (set out i stepDone) (t .count + 4 * n) (historyBytes (written j))) own)
+          (p ∙ ap (λ (j : ℕ). sets (set out i j) (t .records + 4 * n) (historyBytes (written (r .entry .node)))) z ∙ ap (λ (j : ℕ). sets (set out i stepDone) (t .records + 4 * n) (historyBytes (written j))) own)
           (q ∙ ap (λ (j : ℕ). n + length (written j)) own)
         where
           written : ℕ → List S.Write

@@ -42,15 +42,15 @@ fn fresh_table(nodes: u8) -> Table
     }
 }
 
-// An accepted write joins the history. Gives the number of writes.
-fn keep(out: &mut [u8], count: usize, writes: u16, entry: Entry) -> u16
-    requires { ⌜ (count + historyRoom ≤ length (now out)) × (entry .accepted ≡ true → writes < historyLength) ⌝ }
+// An accepted write joins the history, behind so many answers. Gives the number of writes.
+fn keep(out: &mut [u8], answers: usize, writes: u16, entry: Entry) -> u16
+    requires { ⌜ (answers + historyRoom ≤ length (now out)) × (entry .accepted ≡ true → writes < historyLength) ⌝ }
     ensures { λ r. ⌜ (r ≡ writes + length (ifAccepted (entry .accepted) (record { node = entry .node; term = entry .term .0 })))
-        × (now (out .exit) ≡ sets (now (out .entry)) (count + 4 * writes) (historyBytes (ifAccepted (entry .accepted) (record { node = entry .node; term = entry .term .0 })))) ⌝ }
+        × (now (out .exit) ≡ sets (now (out .entry)) (answers + 4 * writes) (historyBytes (ifAccepted (entry .accepted) (record { node = entry .node; term = entry .term .0 })))) ⌝ }
 {
     if entry.accepted {
         let term = entry.term;
-        lists::write_entry(out, count, writes as usize, entry.node, term);
+        lists::write_entry(out, answers, writes as usize, entry.node, term);
         return writes + 1;
     }
     writes
@@ -67,7 +67,7 @@ fn run_records(list: &[u8], trailer: Trailer, out: &mut [u8]) -> u16
     let mut reached = trailer.nodes;
     let mut writes: u16 = 0;
     let mut i: usize = 0;
-    while i < trailer.count {
+    while i < trailer.records {
         if reached < table.count {
             let at = reached as usize;
             let node = table.nodes[at];
@@ -119,7 +119,7 @@ fn run_records(list: &[u8], trailer: Trailer, out: &mut [u8]) -> u16
             table.nodes[at].says = row.says;
             table.streams[at] = next;
             table.claims = held;
-            writes = keep(&mut *out, trailer.count, writes, entry);
+            writes = keep(&mut *out, trailer.records, writes, entry);
             continue;
         }
         if asks::at_desk(ask) {
@@ -151,7 +151,7 @@ pub fn run(list: &[u8], out: &mut [u8]) -> u32
 {
     let trailer = lists::read_trailer(list);
     if trailer.code == parts::DONE {
-        if trailer.count + HISTORY_ROOM <= out.len() {
+        if trailer.records + HISTORY_ROOM <= out.len() {
             let writes = run_records(list, trailer, out);
             return NO_WRITES + writes as u32;
         }

@@ -31,7 +31,7 @@ pub record Leaving (m : Mastership) (n : ℕ) : Type 0 where
 pub record Promotes (m : Mastership) : Type 0 where
   pub ordered : OrderedMastership m
   pub term : m .term .0 ≤ topTerm
-  pub some : 1 ≤ m .count
+  pub some : 1 ≤ m .len
 
 -- The mastership has the node among its backups, and it is not the master.
 pub record Leaves (m : Mastership) (n : ℕ) : Type 0 where

@@ -101,13 +101,13 @@ pub fn joined(service: Mastership, number: u8) -> Mastership
             term: Term(service.term.0 + 1),
             master: number,
             backups: [0u8; 7],
-            count: 0,
+            len: 0,
         };
     }
-    let at = service.count as usize;
+    let at = service.len as usize;
     let mut next = service;
     next.backups[at] = number;
-    next.count = service.count + 1;
+    next.len = service.len + 1;
     next
 }
 
@@ -116,7 +116,7 @@ pub fn hands_over(service: Mastership, number: u8) -> bool
     ensures { λ r. ⌜ r ≡ handsOver number (holdMastership service) ⌝ }
 {
     if service.master == number {
-        return 0 < service.count;
+        return 0 < service.len;
     }
     false
 }
@@ -156,7 +156,7 @@ fn without(m: Mastership, number: u8) -> Mastership
 {
     let place = m.place_of(number);
     let gone = place as usize - 1;
-    let kept = m.count as usize - 1;
+    let kept = m.len as usize - 1;
     let mut backups = [0u8; 7];
     let mut i: usize = 0;
     while i < kept {
@@ -169,7 +169,7 @@ fn without(m: Mastership, number: u8) -> Mastership
         term: term,
         master: m.master,
         backups: backups,
-        count: m.count - 1,
+        len: m.len - 1,
     }
 }
 
@@ -183,7 +183,7 @@ fn promoted(m: Mastership) -> Mastership
         term: Term(m.term.0 + 1),
         master: at[0],
         backups: [at[1], at[2], at[3], at[4], at[5], at[6], 0],
-        count: m.count - 1,
+        len: m.len - 1,
     }
 }
 
@@ -193,7 +193,7 @@ pub fn left(service: Mastership, number: u8) -> Mastership
     ensures { λ r. ⌜ r ≡ packMastership (left number (holdMastership service)) ⌝ }
 {
     if service.master == number {
-        if service.count == 0 {
+        if service.len == 0 {
             let mut next = service;
             next.master = 0;
             return next;

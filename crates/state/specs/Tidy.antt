@@ -40,7 +40,7 @@ noStatus T.AlreadyExists = false
 noStatus T.PermissionDenied = false
 
 unfoldable pub blankMastership : Mastership → Bool
-blankMastership m = isZero (m .term .0) && isZero (m .master) && all isZero (m .backups) && isZero (m .count)
+blankMastership m = isZero (m .term .0) && isZero (m .master) && all isZero (m .backups) && isZero (m .len)
 
 unfoldable pub blankRequest : Request → Bool
 blankRequest r = noMessage (r .message) && isZero (r .id .0) && isZero (r .term .0)
@@ -51,7 +51,7 @@ blankResponse r = noMessage (r .message) && noStatus (r .status) && isZero (r .i
 -- ---- what is in use is tidy, and the places behind it are blank
 
 unfoldable pub tidyMastership : Mastership → Bool
-tidyMastership m = leb (m .count) 7 && all isZero (drop (m .count) (m .backups))
+tidyMastership m = leb (m .len) 7 && all isZero (drop (m .len) (m .backups))
 
 unfoldable pub tidyRequest : Request → Bool
 tidyRequest r = not (noMessage (r .message))

@@ -5,7 +5,7 @@ ghost use Prim.Native.Nat.{ℕ, _≤_};
 ghost use Rattle.rules.specs.Limits.{mostNodes};
 ghost use Rattle.rules.specs.Queues.{before, first};
 ghost use Rattle.rules.specs.Election.{largest, masterOf, taken, statusFor, news, roomOpen};
-ghost use Rattle.rules.specs.Open.{wordOf, countOf};
+ghost use Rattle.rules.specs.Open.{wordOf, openNumber};
 ghost use Rattle.rules.specs.Rules.{changes, noRequest};
 ghost use Rattle.seqs.specs.Columns.{column};
 ghost use Rattle.seqs.specs.Tables.{table};
@@ -108,9 +108,9 @@ pub fn open_word(count: u8, streams: [Stream; 8]) -> u32
 }
 
 // How many streams are open.
-pub fn open_count(count: u8, streams: [Stream; 8]) -> u32
+pub fn open_number(count: u8, streams: [Stream; 8]) -> u32
     requires { ⌜ count ≤ mostNodes ⌝ }
-    ensures { λ r. ⌜ r ≡ countOf (column openAt count streams) ⌝ }
+    ensures { λ r. ⌜ r ≡ openNumber (column openAt count streams) ⌝ }
 {
     u32::count_ones(open_word(count, streams))
 }

@@ -23,10 +23,10 @@ use Rattle.runner.proofs.run_records.Statement.{statement}
 use Rattle.runner.proofs.run_records.Tie as tie
 
 abbrev Inv-loop : tie.InvT-loop
-Inv-loop list trailer out₀ table₀ reached₀ writes₀ i₀ out table reached writes i = (i ≤ trailer .count) × (reached ≤ table .count) × Running list out₀ i out (pending table reached) writes
+Inv-loop list trailer out₀ table₀ reached₀ writes₀ i₀ out table reached writes i = (i ≤ trailer .records) × (reached ≤ table .count) × Running list out₀ i out (pending table reached) writes
 
 abbrev μ-loop : tie.MeasureT-loop
-μ-loop list trailer out₀ table₀ reached₀ writes₀ i₀ out table reached writes i = 16 * (trailer .count - i) + (table .count - reached)
+μ-loop list trailer out₀ table₀ reached₀ writes₀ i₀ out table reached writes i = 16 * (trailer .records - i) + (table .count - reached)
 
 fresh-count : (n : ℕ) → fresh n .count ≡ n
 unfolding fresh
@@ -40,11 +40,11 @@ few-nodes l =
 long-as-lent : (l : tie.At-loop Inv-loop μ-loop) → length (l .loop .out) ≡ length (l .before .before .before .before .args .out .now)
 long-as-lent l =
     let s = l .before .before .before .before in
-    let k = s .pre .trailer .count in
+    let k = s .pre .trailer .records in
     keeps-length (s .args .out .now) (s .pre) (l .loop .inv .2) (omega arith)
 
-fewer : (count i nodes reached : ℕ) → i < count → 16 * (count - (i + 1)) + (nodes - reached) < 16 * (count - i) + (nodes - reached)
-fewer count i nodes reached h = omega arith
+fewer : (total i nodes reached : ℕ) → i < total → 16 * (total - (i + 1)) + (nodes - reached) < 16 * (total - i) + (nodes - reached)
+fewer total i nodes reached h = omega arith
 
 -- ---- a turn that reads a record
 
@@ -62,7 +62,7 @@ turn : (r : tie.After-read-record Inv-loop μ-loop) → let l = r .before .befor
 turn r =
     let l = r .before .before .before .before in
     let s = l .before .before .before .before in
-    let k = s .pre .trailer .count in
+    let k = s .pre .trailer .records in
     record { runs = s .pre; now = l .loop .inv .2; all = omega arith; is = r .read-record .ensures; lt = omega arith }
 
 -- its answer, by its class
@@ -328,7 +328,7 @@ loop-less-4 : tie.Need-loop-less-4 Inv-loop μ-loop
 loop-less-4 c =
     let r = c .before .before .before .before .before .before .before .before .before .before .before .before .before .before .before .before .before .before .before .before in
     let l = r .before .before .before .before in
-    fewer (l .before .before .before .before .args .trailer .count) (l .loop .i) (l .loop .table .count) (l .loop .reached) (r .before .before .if1 .taken)
+    fewer (l .before .before .before .before .args .trailer .records) (l .loop .i) (l .loop .table .count) (l .loop .reached) (r .before .before .if1 .taken)
 
 loop-again-4 : tie.Need-loop-again-4 Inv-loop μ-loop
 loop-again-4 c =
@@ -418,7 +418,7 @@ returns : tie.Need-returns Inv-loop μ-loop
 returns c =
     let l = c .before .before in
     let s = l .before .before .before .before in
-    let all : l .loop .i ≡ s .args .trailer .count = omega arith in
+    let all : l .loop .i ≡ s .args .trailer .records = omega arith in
     ends (s .args .out .now) (s .pre) (rw all at (l .loop .inv .2))
 
 pub run-records-spec : {M : Type 1} → statement M
