@@ -10,7 +10,7 @@ use Rattle.rules.specs.Step.{kindOf, called}
 use Rattle.asks.specs.declared.Ask.{Ask}
 
 abbrev pub hasNode : Ask → Bool
-hasNode a = within 1 (a .count) (a .number)
+hasNode a = within 1 (a .count) (a .node)
 
 abbrev pub rowKind : ℕ → Bool
 rowKind k = eqb k 11 || within 3 8 k
@@ -30,7 +30,7 @@ existenceOf none count n = unknownKind
 existenceOf (some k) count n = cond (called (classOf k) count n) stepDone wrongNode
 
 abbrev pub existence : Ask → ℕ
-existence a = existenceOf (kindOf (a .kind)) (a .count) (a .number)
+existence a = existenceOf (kindOf (a .kind)) (a .count) (a .node)
 
 -- Kinds 12 and 13 alone change it.
 abbrev pub runsAfter : Ask → Bool

@@ -89,11 +89,11 @@ both true y e = (refl, e)
 both false y e = let w : _≡_ {A = ℕ} 0 1 = cc in absurd (omega arith)
 
 module _ (a : Ask) where
-  pub row-at : atRow a ≡ true → RowKind (a .kind) × Within 1 (a .count) (a .number)
-  row-at e = let t = both (rowKind (a .kind)) (hasNode a) e in (row-kind (a .kind) (t .0), is-within 1 (a .count) (a .number) .to (is-yes (hasNode a) .from (t .1)))
+  pub row-at : atRow a ≡ true → RowKind (a .kind) × Within 1 (a .count) (a .node)
+  row-at e = let t = both (rowKind (a .kind)) (hasNode a) e in (row-kind (a .kind) (t .0), is-within 1 (a .count) (a .node) .to (is-yes (hasNode a) .from (t .1)))
 
-  pub desk-at : atDesk a ≡ true → DeskKind (a .kind) × Within 1 (a .count) (a .number)
-  desk-at e = let t = both (deskKind (a .kind)) (hasNode a) e in (desk-kind (a .kind) (t .0), is-within 1 (a .count) (a .number) .to (is-yes (hasNode a) .from (t .1)))
+  pub desk-at : atDesk a ≡ true → DeskKind (a .kind) × Within 1 (a .count) (a .node)
+  desk-at e = let t = both (deskKind (a .kind)) (hasNode a) e in (desk-kind (a .kind) (t .0), is-within 1 (a .count) (a .node) .to (is-yes (hasNode a) .from (t .1)))
 
 -- ---- the last of a match
 

@@ -7,16 +7,16 @@ pub struct Ask {
     pub count: u8,
     pub running: bool,
     pub kind: u8,
-    pub number: u8,
+    pub node: u8,
 }
 
 fn has_node(ask: Ask) -> bool
     ensures { λ r. ⌜ r ≡ hasNode ask ⌝ }
 {
-    if ask.number == 0 {
+    if ask.node == 0 {
         return false;
     }
-    ask.number <= ask.count
+    ask.node <= ask.count
 }
 
 fn is_row_kind(kind: u8) -> bool
@@ -71,7 +71,7 @@ pub fn existence_code(ask: Ask) -> u8
         }
         return parts::WRONG_NODE;
     }
-    if ask.number == 0 {
+    if ask.node == 0 {
         return parts::DONE;
     }
     parts::WRONG_NODE

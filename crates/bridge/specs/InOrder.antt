@@ -15,8 +15,8 @@ use Rattle.laws.specs.Lists.{all-getD, queue-none}
 use Rattle.laws.specs.Ids.{fewer-backups}
 use Rattle.seqs.specs.Tables.{table-get}
 use Rattle.parts.specs.Ordered.{OrderedMastership, ordered-mastership, ordered-events, ordered-requests, ordered-responses}
-use Rattle.state.specs.Hold.{nodeRow, streamRow, packNodes, packStreams, packClaims, packCore, represent}
-use Rattle.state.specs.Order.{OrderedNodes, OrderedBoard, pastNode, pastStream}
+use Rattle.state.specs.Hold.{controllerRow, streamRow, packControllers, packStreams, packClaims, packCore, represent}
+use Rattle.state.specs.Order.{OrderedControllers, OrderedBoard, pastController, pastStream}
 use Rattle.bridge.specs.Held.{events-back, learned-back, says-back, board-back}
 
 -- ---- there is a place for every backup
@@ -45,15 +45,15 @@ module _ (n : ℕ) (running : Bool) (c : S.Core) (few : n ≤ mostNodes) (k : Co
   pub learned-at : (i : ℕ) → LearnedFits n (getD (c .learned) i S.blank)
   learned-at i = all-getD (LearnedFits n) (c .learned) i S.blank (unlearned refl) (k .learned)
 
-  nodes-ordered : OrderedNodes n (packNodes events (c .learned) (c .says))
-  unfolding packNodes
-  nodes-ordered = record {
+  controllers-ordered : OrderedControllers n (packControllers events (c .learned) (c .says))
+  unfolding packControllers
+  controllers-ordered = record {
     few = few;
-    rows = λ i h. rw (table-get mostNodes (nodeRow events (c .learned) (c .says)) i pastNode (omega arith)) (record {
+    rows = λ i h. rw (table-get mostNodes (controllerRow events (c .learned) (c .says)) i pastController (omega arith)) (record {
       events = ordered-events (getD events i []) (events-at i .short);
       learned = ordered-mastership (getD (c .learned) i S.blank) (learned-short n few (getD (c .learned) i S.blank) (learned-at i));
     });
-    same = λ i. packNodes (events-back n few events (c .learned) (c .says) (k .desk .size) i) (learned-back n few events (c .learned) (c .says) (k .learned-size) i) (says-back n few events (c .learned) (c .says) (k .says-size) i);
+    same = λ i. packControllers (events-back n few events (c .learned) (c .says) (k .desk .size) i) (learned-back n few events (c .learned) (c .says) (k .learned-size) i) (says-back n few events (c .learned) (c .says) (k .says-size) i);
   }
 
   board-ordered : OrderedBoard n (packStreams (c .board)) (packClaims (c .board))
@@ -71,9 +71,9 @@ module _ (n : ℕ) (running : Bool) (c : S.Core) (few : n ≤ mostNodes) (k : Co
 -- ---- the state
 
 module _ (t : S.State) (h : T (inRange t)) where
-  pub ordered-nodes : OrderedNodes (t .count) (represent t .core .nodes)
+  pub ordered-controllers : OrderedControllers (t .count) (represent t .core .controllers)
   unfolding represent packCore
-  ordered-nodes = let r = range-sound t h in nodes-ordered (t .count) (t .running) (t .core) (r .count .upper) (r .core)
+  ordered-controllers = let r = range-sound t h in controllers-ordered (t .count) (t .running) (t .core) (r .count .upper) (r .core)
 
   pub ordered-board : OrderedBoard (t .count) (represent t .core .streams) (represent t .core .claims)
   unfolding represent packCore

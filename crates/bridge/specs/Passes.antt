@@ -16,8 +16,8 @@ use Rattle.laws.specs.Lists.{all-each}
 use Rattle.seqs.specs.Padded.{padded}
 use Rattle.seqs.specs.Tables.{table}
 use Rattle.parts.specs.Hold.{asIs, packMastership, noMastership, packMessage, packRequest, noRequest, packStatus, packResponse, noResponse}
-use Rattle.state.specs.Hold.{packNode, packStream, nodeRow, streamRow, idRow, termRow, packNodes, packStreams, packClaims, packCore, packHistory, packWrite, noWrite, hold, represent}
-use Rattle.state.specs.Tidy.{isZero, noMessage, noStatus, blankMastership, blankRequest, blankResponse, tidyMastership, tidyRequest, tidyResponse, tidyPlaces, tidyNode, tidyStream, blankNode, blankStream, blankId, blankTerm, tidyCore, anyWrite, blankWrite, tidyHistory, stateFits}
+use Rattle.state.specs.Hold.{packController, packStream, controllerRow, streamRow, idRow, termRow, packControllers, packStreams, packClaims, packCore, packHistory, packWrite, noWrite, hold, represent}
+use Rattle.state.specs.Tidy.{isZero, noMessage, noStatus, blankMastership, blankRequest, blankResponse, tidyMastership, tidyRequest, tidyResponse, tidyPlaces, tidyController, tidyStream, blankController, blankStream, blankId, blankTerm, tidyCore, anyWrite, blankWrite, tidyHistory, stateFits}
 use Rattle.bridge.specs.Rows.{taken-table, dropped-table, taken-padded, dropped-padded}
 use Rattle.bridge.specs.Held.{hold-represent}
 use Rattle.bridge.specs.InOrder.{event-short, service-short, learned-short, events-at, learned-at}
@@ -84,18 +84,18 @@ no-write = tt
 
 -- ---- rows
 
-no-node : T (blankNode (packNode [] S.blank false))
-unfolding blankNode blankMastership all
-no-node = tt
+no-controller : T (blankController (packController [] S.blank false))
+unfolding blankController blankMastership all
+no-controller = tt
 
 no-stream : T (blankStream (packStream false 0 [] []))
 unfolding blankStream blankRequest blankResponse noMessage noStatus all
 no-stream = tt
 
 module _ (n : ℕ) (running : Bool) (c : S.Core) (few : n ≤ mostNodes) (k : CoreFits n running c) where
-  node-passes : (i : ℕ) → T (tidyNode (nodeRow (c .desk .events) (c .learned) (c .says) i))
-  unfolding tidyNode
-  node-passes i =
+  controller-passes : (i : ℕ) → T (tidyController (controllerRow (c .desk .events) (c .learned) (c .says) i))
+  unfolding tidyController
+  controller-passes i =
       let q = getD (c .desk .events) i [] in
       let m = getD (c .learned) i S.blank in
       let h = events-at n running c few k i in
@@ -118,22 +118,22 @@ module _ (n : ℕ) (running : Bool) (c : S.Core) (few : n ≤ mostNodes) (k : Co
   past : {A : Type 0} (l : List A) (d : A) (i : ℕ) → length l ≡ n → n ≤ i → getD l i d ≡ d
   past l d i e h = List·getD-eq-default l d (let z : length l ≡ n = e in omega arith)
 
-  node-blank : (i : ℕ) → n ≤ i → T (blankNode (nodeRow (c .desk .events) (c .learned) (c .says) i))
-  node-blank i h = rw (past (c .desk .events) [] i (k .desk .size) h, past (c .learned) S.blank i (k .learned-size) h, past (c .says) false i (k .says-size) h) no-node
+  controller-blank : (i : ℕ) → n ≤ i → T (blankController (controllerRow (c .desk .events) (c .learned) (c .says) i))
+  controller-blank i h = rw (past (c .desk .events) [] i (k .desk .size) h, past (c .learned) S.blank i (k .learned-size) h, past (c .says) false i (k .says-size) h) no-controller
 
   stream-blank : (i : ℕ) → n ≤ i → T (blankStream (streamRow (c .board) i))
   stream-blank i h = let w = c .board in let z = k .board in
       rw (past (w .opens) false i (z .opens-size) h, past (w .sent) 0 i (z .sent-size) h, past (w .requests) [] i (z .requests-size) h, past (w .responses) [] i (z .responses-size) h) no-stream
 
   core-passes : T (tidyCore n (packCore c))
-  unfolding tidyCore packCore packNodes packStreams packClaims
+  unfolding tidyCore packCore packControllers packStreams packClaims
   core-passes =
       let w = c .board in
-      let nodes = table mostNodes (nodeRow (c .desk .events) (c .learned) (c .says)) in
+      let controllers = table mostNodes (controllerRow (c .desk .events) (c .learned) (c .says)) in
       let streams = table mostNodes (streamRow w) in
       let ids = table mostNodes (idRow (w .ids)) in
       let terms = table mostNodes (termRow (w .terms)) in
-      (as-is (tidyMastership (packMastership (c .desk .service))) & as-is (all tidyNode (take n nodes)) & as-is (all blankNode (drop n nodes))
+      (as-is (tidyMastership (packMastership (c .desk .service))) & as-is (all tidyController (take n controllers)) & as-is (all blankController (drop n controllers))
       & as-is (all tidyStream (take n streams)) & as-is (all blankStream (drop n streams)) & as-is (all blankId (drop n ids)) & as-is (all blankTerm (drop n terms))) .from (
         (
           (
@@ -141,9 +141,9 @@ module _ (n : ℕ) (running : Bool) (c : S.Core) (few : n ≤ mostNodes) (k : Co
               (
                 (
                   mastership-passes (c .desk .service) (service-short n few (c .desk .service) (k .desk .service)),
-                  from-all tidyNode (take n nodes) (taken-table (λ r. T (tidyNode r)) n mostNodes (nodeRow (c .desk .events) (c .learned) (c .says)) (λ i h. node-passes i)),
+                  from-all tidyController (take n controllers) (taken-table (λ r. T (tidyController r)) n mostNodes (controllerRow (c .desk .events) (c .learned) (c .says)) (λ i h. controller-passes i)),
                 ),
-                from-all blankNode (drop n nodes) (dropped-table (λ r. T (blankNode r)) n mostNodes (nodeRow (c .desk .events) (c .learned) (c .says)) node-blank),
+                from-all blankController (drop n controllers) (dropped-table (λ r. T (blankController r)) n mostNodes (controllerRow (c .desk .events) (c .learned) (c .says)) controller-blank),
               ),
               from-all tidyStream (take n streams) (taken-table (λ r. T (tidyStream r)) n mostNodes (streamRow w) (λ i h. stream-passes i)),
             ),

@@ -25,16 +25,16 @@ use Rattle.parts.specs.declared.Response.{Response}
 use Rattle.parts.specs.declared.ElectionId.{ElectionId}
 use Rattle.parts.specs.declared.Term.{Term}
 use Rattle.parts.specs.Hold.{holdMastership, packMastership, noMastership, asIs, holdMessage, packMessage, holdStatus, packStatus, holdRequest, packRequest, noRequest, holdResponse, packResponse, noResponse}
-use Rattle.state.specs.declared.Node.{Node}
+use Rattle.state.specs.declared.Controller.{Controller}
 use Rattle.state.specs.declared.Stream.{Stream}
 use Rattle.state.specs.declared.Claims.{Claims}
 use Rattle.state.specs.declared.Write.{Write}
 use Rattle.state.specs.declared.History.{History}
 use Rattle.state.specs.declared.State.{State}
-use Rattle.state.specs.Hold.{eventsAt, learnedAt, saysAt, openAt, sentAt, requestsAt, responsesAt, idAt, termAt, packNode, packStream, nodeRow, streamRow, idRow, termRow, packNodes, packStreams, packClaims, packCore, packHistory, packWrite, noWrite, holdWrite, holdBoard, holdDesk, holdCore, holdHistory, hold, represent}
-use Rattle.state.specs.Order.{pastNode, pastStream}
-use Rattle.state.specs.Tidy.{isZero, noMessage, noStatus, blankMastership, blankRequest, blankResponse, tidyMastership, tidyRequest, tidyResponse, tidyPlaces, tidyNode, tidyStream, blankNode, blankStream, blankId, blankTerm, tidyCore, anyWrite, blankWrite, tidyHistory, stateFits}
-use Rattle.bridge.specs.Sized.{SizedMastership, SizedNode, SizedStream, Sized}
+use Rattle.state.specs.Hold.{eventsAt, learnedAt, saysAt, openAt, sentAt, requestsAt, responsesAt, idAt, termAt, packController, packStream, controllerRow, streamRow, idRow, termRow, packControllers, packStreams, packClaims, packCore, packHistory, packWrite, noWrite, holdWrite, holdBoard, holdDesk, holdCore, holdHistory, hold, represent}
+use Rattle.state.specs.Order.{pastController, pastStream}
+use Rattle.state.specs.Tidy.{isZero, noMessage, noStatus, blankMastership, blankRequest, blankResponse, tidyMastership, tidyRequest, tidyResponse, tidyPlaces, tidyController, tidyStream, blankController, blankStream, blankId, blankTerm, tidyCore, anyWrite, blankWrite, tidyHistory, stateFits}
+use Rattle.bridge.specs.Sized.{SizedMastership, SizedController, SizedStream, Sized}
 use Rattle.bridge.specs.Rows.{Any, all-any, all-take, all-drop, all-known, column-past, table-same, padded-same}
 
 -- ---- the places of any array
@@ -192,17 +192,17 @@ response = record {
 
 -- ---- rows
 
-node-same : (r : Node) → SizedNode r → T (tidyNode r) → packNode (eventsAt r) (learnedAt r) (saysAt r) ≡ r
-unfolding tidyNode
-node-same r k t =
+controller-same : (r : Controller) → SizedController r → T (tidyController r) → packController (eventsAt r) (learnedAt r) (saysAt r) ≡ r
+unfolding tidyController
+controller-same r k t =
     let q = r .events in
     let h = (as-is (tidyPlaces queueLength tidyMastership blankMastership (q .items) (q .len)) & as-is (tidyMastership (r .learned))) .to t in
     let events = places-same mastership queueLength (q .items) (k .events) (k .items) (q .len) (h .0) in
     λ i. record { events = record { items = events .items i; len = events .len i }; learned = mastership-same (r .learned) (k .learned) (h .1) i; says = r .says }
 
-node-none : (r : Node) → SizedNode r → T (blankNode r) → r ≡ packNode [] S.blank false
-unfolding blankNode
-node-none r k t =
+controller-none : (r : Controller) → SizedController r → T (blankController r) → r ≡ packController [] S.blank false
+unfolding blankController
+controller-none r k t =
     let q = r .events in
     let h = (as-is (all blankMastership (q .items)) & is-eq (q .len) 0 & as-is (blankMastership (r .learned)) & is-not (r .says)) .to t in
     λ i. record {
@@ -248,15 +248,15 @@ term-none : (x : Term) → Any x → T (blankTerm x) → x ≡ record { 0 = 0 }
 term-none x k t = λ i. record { 0 = is-eq (x .0) 0 .to t i }
 
 module _ (n : ℕ) (few : n ≤ mostNodes) where
-  nodes-same : (l : List Node) → length l ≡ mostNodes → All SizedNode l → T (all tidyNode (take n l)) → T (all blankNode (drop n l))
-      → packNodes (column eventsAt n l) (column learnedAt n l) (column saysAt n l) ≡ l
-  unfolding packNodes
-  nodes-same l e k t b = let f : n ≤ length l = omega arith in
-      table-same mostNodes n (nodeRow (column eventsAt n l) (column learnedAt n l) (column saysAt n l)) l pastNode (packNode [] S.blank false) (λ r. packNode (eventsAt r) (learnedAt r) (saysAt r)) e
-      (all-known tidyNode node-same (take n l) (all-take SizedNode n l k) t)
-      (all-known blankNode node-none (drop n l) (all-drop SizedNode n l k) b)
-      (λ i h z. packNode (column-at eventsAt n i l pastNode h z) (column-at learnedAt n i l pastNode h z) (column-at saysAt n i l pastNode h z))
-      (λ i h z. packNode (column-past eventsAt n i l [] f h z) (column-past learnedAt n i l S.blank f h z) (column-past saysAt n i l false f h z))
+  controllers-same : (l : List Controller) → length l ≡ mostNodes → All SizedController l → T (all tidyController (take n l)) → T (all blankController (drop n l))
+      → packControllers (column eventsAt n l) (column learnedAt n l) (column saysAt n l) ≡ l
+  unfolding packControllers
+  controllers-same l e k t b = let f : n ≤ length l = omega arith in
+      table-same mostNodes n (controllerRow (column eventsAt n l) (column learnedAt n l) (column saysAt n l)) l pastController (packController [] S.blank false) (λ r. packController (eventsAt r) (learnedAt r) (saysAt r)) e
+      (all-known tidyController controller-same (take n l) (all-take SizedController n l k) t)
+      (all-known blankController controller-none (drop n l) (all-drop SizedController n l k) b)
+      (λ i h z. packController (column-at eventsAt n i l pastController h z) (column-at learnedAt n i l pastController h z) (column-at saysAt n i l pastController h z))
+      (λ i h z. packController (column-past eventsAt n i l [] f h z) (column-past learnedAt n i l S.blank f h z) (column-past saysAt n i l false f h z))
 
   streams-same : (l : List Stream) (claims : Claims) → length l ≡ mostNodes → All SizedStream l → T (all tidyStream (take n l)) → T (all blankStream (drop n l))
       → packStreams (holdBoard n l claims) ≡ l
@@ -313,12 +313,12 @@ unfolding tidyCore packCore holdCore holdDesk
 core-same s k few t =
     let n = s .count in
     let c = s .core in
-    let h = (as-is (tidyMastership (c .service)) & as-is (all tidyNode (take n (c .nodes))) & as-is (all blankNode (drop n (c .nodes)))
+    let h = (as-is (tidyMastership (c .service)) & as-is (all tidyController (take n (c .controllers))) & as-is (all blankController (drop n (c .controllers)))
     & as-is (all tidyStream (take n (c .streams))) & as-is (all blankStream (drop n (c .streams)))
     & as-is (all blankId (drop n (c .claims .ids))) & as-is (all blankTerm (drop n (c .claims .terms)))) .to t in
     let w = h .0 .0 in λ i. record {
       service = mastership-same (c .service) (k .service) (w .0 .0 .0 .0) i;
-      nodes = nodes-same n few (c .nodes) (k .nodes) (k .node-rows) (w .0 .0 .0 .1) (w .0 .0 .1) i;
+      controllers = controllers-same n few (c .controllers) (k .controllers) (k .controller-rows) (w .0 .0 .0 .1) (w .0 .0 .1) i;
       streams = streams-same n few (c .streams) (c .claims) (k .streams) (k .stream-rows) (w .0 .1) (w .1) i;
       claims = claims-same n few (c .streams) (c .claims) (k .ids) (k .terms) (h .0 .1) (h .1) i;
     }

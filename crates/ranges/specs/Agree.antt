@@ -18,26 +18,26 @@ use Rattle.laws.specs.Lists.{all-with}
 use Rattle.seqs.specs.Columns.{column, column-at, length-column}
 use Rattle.parts.specs.Hold.{holdMastership}
 use Rattle.state.specs.Hold.{eventsAt, learnedAt, saysAt, openAt, sentAt, requestsAt, responsesAt, idAt, termAt, noWrite, holdBoard, holdDesk, holdCore, holdHistory, hold}
-use Rattle.state.specs.Order.{pastNode, pastStream}
-use Rattle.state.specs.Tidy.{isZero, tidyMastership, tidyNode, blankNode, tidyStream, blankStream, blankId, blankTerm, tidyCore, tidyHistory, stateFits}
-use Rattle.state.specs.declared.Node.{Node}
+use Rattle.state.specs.Order.{pastController, pastStream}
+use Rattle.state.specs.Tidy.{isZero, tidyMastership, tidyController, blankController, tidyStream, blankStream, blankId, blankTerm, tidyCore, tidyHistory, stateFits}
+use Rattle.state.specs.declared.Controller.{Controller}
 use Rattle.state.specs.declared.Stream.{Stream}
 use Rattle.state.specs.declared.Claims.{Claims}
 use Rattle.state.specs.declared.State.{State}
-use Rattle.bridge.specs.Sized.{SizedNode, SizedStream, Sized}
+use Rattle.bridge.specs.Sized.{SizedController, SizedStream, Sized}
 use Rattle.bridge.specs.Rows.{all-any, all-take, taken-at, dropped-at}
-use Rattle.ranges.specs.Tests.{nodeTest, blankNodeTest, nodesTest, streamPlace, streamsTest, idTest, idsTest, historyTest, coreTest, stateTest}
+use Rattle.ranges.specs.Tests.{controllerTest, blankControllerTest, controllersTest, streamPlace, streamsTest, idTest, idsTest, historyTest, coreTest, stateTest}
 use Rattle.ranges.specs.Places.{agree, is-then, all-taken, all-dropped, all-each, all-mapped, all-unmapped, is-places}
 use Rattle.ranges.specs.First.{ids-first, first-ids}
 use Rattle.ranges.specs.Masterships.{is-service}
 use Rattle.ranges.specs.Queues.{listFits, accepted, is-queue}
-use Rattle.ranges.specs.Rows.{is-node, is-no-node, is-stream, is-no-stream}
+use Rattle.ranges.specs.Rows.{is-controller, is-no-controller, is-stream, is-no-stream}
 
 -- ---- the columns of the nodes
 
-module _ (n : ℕ) (l : List Node) (sized : length l ≡ mostNodes) (known : All SizedNode l) where
-  abbrev NodeFits : Node → Type 0
-  NodeFits r = T (tidyNode r) × (T (queueFits (mastershipFits n) (eventsAt r)) × T (learnedFits n (learnedAt r)))
+module _ (n : ℕ) (l : List Controller) (sized : length l ≡ mostNodes) (known : All SizedController l) where
+  abbrev ControllerFits : Controller → Type 0
+  ControllerFits r = T (tidyController r) × (T (queueFits (mastershipFits n) (eventsAt r)) × T (learnedFits n (learnedAt r)))
 
   abbrev queuesFit : Bool
   queuesFit = all (queueFits (mastershipFits n)) (column eventsAt n l)
@@ -46,9 +46,9 @@ module _ (n : ℕ) (l : List Node) (sized : length l ≡ mostNodes) (known : All
   allLearned = all (learnedFits n) (column learnedAt n l)
 
   -- By columns.
-  is-nodes-columns : Is (all tidyNode (take n l) && queuesFit && allLearned && all blankNode (drop n l))
-      (All NodeFits (take n l) × All (λ r. T (blankNode r)) (drop n l))
-  is-nodes-columns =
+  is-controllers-columns : Is (all tidyController (take n l) && queuesFit && allLearned && all blankController (drop n l))
+      (All ControllerFits (take n l) × All (λ r. T (blankController r)) (drop n l))
+  is-controllers-columns =
       is-map
       (λ t. let c = t .0 in (
         all-with (λ r a b. (a, b)) (take n l) (c .0 .0)
@@ -64,13 +64,13 @@ module _ (n : ℕ) (l : List Node) (sized : length l ≡ mostNodes) (known : All
         ),
         h .1,
       ))
-      (is-all (λ r. as-is (tidyNode r)) (take n l) & is-all (λ q. as-is (queueFits (mastershipFits n) q)) (column eventsAt n l)
-      & is-all (λ m. as-is (learnedFits n m)) (column learnedAt n l) & is-all (λ r. as-is (blankNode r)) (drop n l))
+      (is-all (λ r. as-is (tidyController r)) (take n l) & is-all (λ q. as-is (queueFits (mastershipFits n) q)) (column eventsAt n l)
+      & is-all (λ m. as-is (learnedFits n m)) (column learnedAt n l) & is-all (λ r. as-is (blankController r)) (drop n l))
 
   -- By rows.
-  is-nodes : Is (nodesTest n l) (All NodeFits (take n l) × All (λ r. T (blankNode r)) (drop n l))
-  unfolding nodesTest
-  is-nodes = is-places (nodeTest n) blankNodeTest pastNode l n mostNodes sized SizedNode NodeFits (λ r. T (blankNode r)) (λ r k. is-node r k n) is-no-node known
+  is-controllers : Is (controllersTest n l) (All ControllerFits (take n l) × All (λ r. T (blankController r)) (drop n l))
+  unfolding controllersTest
+  is-controllers = is-places (controllerTest n) blankControllerTest pastController l n mostNodes sized SizedController ControllerFits (λ r. T (blankController r)) (λ r k. is-controller r k n) is-no-controller known
 
 -- ---- the columns of the streams
 
@@ -189,8 +189,8 @@ module _ (s : State) (k : Sized s) where
   abbrev n : ℕ
   n = s .count
 
-  abbrev nodes : List Node
-  nodes = s .core .nodes
+  abbrev controllers : List Controller
+  controllers = s .core .controllers
 
   abbrev streams : List Stream
   streams = s .core .streams
@@ -205,8 +205,8 @@ module _ (s : State) (k : Sized s) where
     count : Within 1 mostNodes n
     tidy-service : T (tidyMastership (s .core .service))
     service : T (serviceFits n (holdMastership (s .core .service)))
-    rows : All (NodeFits n nodes (k .nodes) (k .node-rows)) (take n nodes)
-    blank-rows : All (λ r. T (blankNode r)) (drop n nodes)
+    rows : All (ControllerFits n controllers (k .controllers) (k .controller-rows)) (take n controllers)
+    blank-rows : All (λ r. T (blankController r)) (drop n controllers)
     board : Streams n (s .running) streams claims (k .streams) (k .stream-rows) (k .ids) (k .terms)
     ids : T (distinctIds (column idAt n (claims .ids)))
     last : claims .last .0 ≤ topTerm
@@ -235,7 +235,7 @@ module _ (s : State) (k : Sized s) where
       })
       (λ f. ((f .count, ((((f .last, (f .tidy-service, f .service)), (f .rows, f .blank-rows)), f .board), f .ids)), (f .tidy-history, f .history)))
       (is-then (is-within 1 mostNodes n) (λ w. let few : n ≤ mostNodes = w .upper in
-      is-le (claims .last .0) topTerm & is-service (s .core .service) (k .service) n & is-nodes n nodes (k .nodes) (k .node-rows)
+      is-le (claims .last .0) topTerm & is-service (s .core .service) (k .service) n & is-controllers n controllers (k .controllers) (k .controller-rows)
       & is-streams n (s .running) streams claims (k .streams) (k .stream-rows) (k .ids) (k .terms) few
       & is-ids n (s .running) streams claims (k .streams) (k .stream-rows) (k .ids) (k .terms) few)
       & is-history)
@@ -263,27 +263,27 @@ module _ (s : State) (k : Sized s) where
       & is-le (claims .last .0) topTerm)
 
   is-core : n ≤ mostNodes → Is (coreFits n (s .running) (holdCore n (s .core)))
-      (((T (serviceFits n (holdMastership (s .core .service))) × T (all (queueFits (mastershipFits n)) (column eventsAt n nodes))) × T (all (learnedFits n) (column learnedAt n nodes)))
+      (((T (serviceFits n (holdMastership (s .core .service))) × T (all (queueFits (mastershipFits n)) (column eventsAt n controllers))) × T (all (learnedFits n) (column learnedAt n controllers)))
       × (((((i : ℕ) → i < n → At i) × T (distinctIds (column idAt n (claims .ids)))) × All (λ o. T (s .running || not o)) opens) × (claims .last .0 ≤ topTerm)))
   unfolding coreFits deskFits holdCore holdDesk
   is-core few =
-      let a = k .nodes in
+      let a = k .controllers in
       is-map (λ t. let d = t .0 .0 .0 .0 in (((d .0 .1, d .1), t .0 .0 .1), t .1)) (λ h. let f = h .0 in (((((((tt, f .0 .0), f .0 .1), tt), f .1), tt), h .1)))
-      (sure (is-eq (length (column eventsAt n nodes)) n) (length-column eventsAt n nodes (omega arith))
+      (sure (is-eq (length (column eventsAt n controllers)) n) (length-column eventsAt n controllers (omega arith))
       & as-is (serviceFits n (holdMastership (s .core .service)))
-      & as-is (all (queueFits (mastershipFits n)) (column eventsAt n nodes))
-      & sure (is-eq (length (column learnedAt n nodes)) n) (length-column learnedAt n nodes (omega arith))
-      & as-is (all (learnedFits n) (column learnedAt n nodes))
-      & sure (is-eq (length (column saysAt n nodes)) n) (length-column saysAt n nodes (omega arith))
+      & as-is (all (queueFits (mastershipFits n)) (column eventsAt n controllers))
+      & sure (is-eq (length (column learnedAt n controllers)) n) (length-column learnedAt n controllers (omega arith))
+      & as-is (all (learnedFits n) (column learnedAt n controllers))
+      & sure (is-eq (length (column saysAt n controllers)) n) (length-column saysAt n controllers (omega arith))
       & is-board few)
 
   abbrev tidyFacts : Type 0
-  tidyFacts = (((((T (tidyMastership (s .core .service)) × T (all tidyNode (take n nodes))) × T (all blankNode (drop n nodes))) × All (λ r. T (tidyStream r)) (take n streams))
+  tidyFacts = (((((T (tidyMastership (s .core .service)) × T (all tidyController (take n controllers))) × T (all blankController (drop n controllers))) × All (λ r. T (tidyStream r)) (take n streams))
       × All (λ r. T (blankStream r)) (drop n streams)) × All (λ x. T (blankId x)) (drop n (claims .ids))) × All (λ x. T (blankTerm x)) (drop n (claims .terms))
 
   is-tidy : Is (tidyCore n (s .core)) tidyFacts
   unfolding tidyCore
-  is-tidy = as-is (tidyMastership (s .core .service)) & as-is (all tidyNode (take n nodes)) & as-is (all blankNode (drop n nodes))
+  is-tidy = as-is (tidyMastership (s .core .service)) & as-is (all tidyController (take n controllers)) & as-is (all blankController (drop n controllers))
       & is-all (λ r. as-is (tidyStream r)) (take n streams) & is-all (λ r. as-is (blankStream r)) (drop n streams)
       & is-all (λ x. as-is (blankId x)) (drop n (claims .ids)) & is-all (λ x. as-is (blankTerm x)) (drop n (claims .terms))
 
@@ -291,9 +291,9 @@ module _ (s : State) (k : Sized s) where
   unfolding stateFits inRange hold holdBoard
   is-state =
       let w = holdHistory (s .history) in
-      let columns = is-nodes-columns n nodes (k .nodes) (k .node-rows) in
-      let four = as-is (all tidyNode (take n nodes)) & as-is (all (queueFits (mastershipFits n)) (column eventsAt n nodes))
-      & as-is (all (learnedFits n) (column learnedAt n nodes)) & as-is (all blankNode (drop n nodes)) in
+      let columns = is-controllers-columns n controllers (k .controllers) (k .controller-rows) in
+      let four = as-is (all tidyController (take n controllers)) & as-is (all (queueFits (mastershipFits n)) (column eventsAt n controllers))
+      & as-is (all (learnedFits n) (column learnedAt n controllers)) & as-is (all blankController (drop n controllers)) in
       let listed = as-is (leb (length w) historyLength) & as-is (all (writeFits n) w) in
       is-map
       (λ t. let y = t .0 .0 in let z = y .0 .0 .0 .0 in let c = t .1 .0 .0 .1 in

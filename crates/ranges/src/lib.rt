@@ -20,7 +20,7 @@ fn core_fits(count: u8, running: bool, core: Core) -> bool
         return false;
     }
     if queues::masterships::service_fits(count, service) {
-        if rows::nodes_fit(count, core) {
+        if rows::controllers_fit(count, core) {
             if rows::streams_fit(count, running, core) {
                 return rows::ids_fit(count, claims);
             }

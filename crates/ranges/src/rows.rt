@@ -7,18 +7,18 @@ ghost use Rattle.rules.specs.Queues.{before};
 ghost use Rattle.seqs.specs.Columns.{column};
 ghost use Rattle.state.specs.Hold.{idAt};
 ghost use Rattle.state.specs.Tidy.{blankWrite};
-ghost use Rattle.ranges.specs.Tests.{nodeTest, blankNodeTest, nodesTest, shutTest, queuesTest, streamTest, streamsTest, idTest, idsTest, writeTest, historyTest};
+ghost use Rattle.ranges.specs.Tests.{controllerTest, blankControllerTest, controllersTest, shutTest, queuesTest, streamTest, streamsTest, idTest, idsTest, writeTest, historyTest};
 use parts::ElectionId;
 use parts::Term;
 use state::Claims;
 use state::Core;
 use state::History;
-use state::Node;
+use state::Controller;
 use state::Stream;
 use state::Write;
 
-fn node_fits(count: u8, row: Node) -> bool
-    ensures { λ r. ⌜ r ≡ nodeTest count row ⌝ }
+fn controller_fits(count: u8, row: Controller) -> bool
+    ensures { λ r. ⌜ r ≡ controllerTest count row ⌝ }
 {
     let events = row.events;
     let learned = row.learned;
@@ -29,32 +29,32 @@ fn node_fits(count: u8, row: Node) -> bool
 }
 
 // Among no nodes only a row without events that has learned nothing fits.
-fn node_is_blank(row: Node) -> bool
-    ensures { λ r. ⌜ r ≡ blankNodeTest row ⌝ }
+fn controller_is_blank(row: Controller) -> bool
+    ensures { λ r. ⌜ r ≡ blankControllerTest row ⌝ }
 {
     if row.says {
         return false;
     }
-    node_fits(0, row)
+    controller_fits(0, row)
 }
 
-fn node_place_fits(count: u8, used: bool, row: Node) -> bool
-    ensures { λ r. ⌜ r ≡ cond used (nodeTest count row) (blankNodeTest row) ⌝ }
+fn controller_place_fits(count: u8, used: bool, row: Controller) -> bool
+    ensures { λ r. ⌜ r ≡ cond used (controllerTest count row) (blankControllerTest row) ⌝ }
 {
     if used {
-        return node_fits(count, row);
+        return controller_fits(count, row);
     }
-    node_is_blank(row)
+    controller_is_blank(row)
 }
 
-pub fn nodes_fit(count: u8, core: Core) -> bool
-    ensures { λ r. ⌜ r ≡ nodesTest count (core .nodes) ⌝ }
+pub fn controllers_fit(count: u8, core: Core) -> bool
+    ensures { λ r. ⌜ r ≡ controllersTest count (core .controllers) ⌝ }
 {
     let mut i: u8 = 0;
     while i < parts::MOST_NODES {
         let at = i as usize;
-        let row = core.nodes[at];
-        if node_place_fits(count, i < count, row) {
+        let row = core.controllers[at];
+        if controller_place_fits(count, i < count, row) {
             i += 1;
         } else {
             return false;

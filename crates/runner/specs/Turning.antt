@@ -16,14 +16,14 @@ use Rattle.seqs.specs.Rows.{mapFirst}
 use Rattle.parts.specs.declared.Mastership.{Mastership}
 use Rattle.state.specs.Stores.{storeInbox}
 use Rattle.state.specs.Reads.{inboxOf}
-use Rattle.state.specs.declared.Node.{Node}
+use Rattle.state.specs.declared.Controller.{Controller}
 use Rattle.state.specs.declared.Board.{Board}
 use Rattle.state.specs.declared.Body.{Body}
 use Rattle.state.specs.declared.Table.{Table}
 use Rattle.moves.specs.Bodies.{stateOf, Ready, Leaves}
-use Rattle.moves.specs.Sets.{withDesk, withNode, withBoard}
-use Rattle.moves.specs.Gets.{nodeOf, streamOf}
-use Rattle.moves.specs.Stored.{few, in-order-nodes}
+use Rattle.moves.specs.Sets.{withDesk, withController, withBoard}
+use Rattle.moves.specs.Gets.{controllerOf, streamOf}
+use Rattle.moves.specs.Stored.{few, in-order-controllers}
 use Rattle.moves.specs.Acts.{plain}
 use Rattle.rules.specs.Rules.{learnRule}
 use Rattle.service.specs.Asks.{hears}
@@ -46,9 +46,9 @@ use Rattle.runner.specs.Running.{ifAccepted, Runs, Running, ready, room-
 -- The code is the answer of the class that the step is of. The history holds `writes`.
 pub data Coded (table : Table) (e : Event) (writes code : ℕ) : Type 0 where
   of-row : atRow (askOf (bodyIn table) (e .kind) (e .node)) ≡ true
-      → code ≡ rowAnswer (askOf (bodyIn table) (e .kind) (e .node)) writes (nodeOf (bodyIn table) (e .node)) (streamOf (bodyIn table) (e .node)) (table .claims) → Coded table e writes code
+      → code ≡ rowAnswer (askOf (bodyIn table) (e .kind) (e .node)) writes (controllerOf (bodyIn table) (e .node)) (streamOf (bodyIn table) (e .node)) (table .claims) → Coded table e writes code
   of-desk : atRow (askOf (bodyIn table) (e .kind) (e .node)) ≡ false → atDesk (askOf (bodyIn table) (e .kind) (e .node)) ≡ true
-      → code ≡ deskAnswer (askOf (bodyIn table) (e .kind) (e .node)) (table .service) (table .nodes) → Coded table e writes code
+      → code ≡ deskAnswer (askOf (bodyIn table) (e .kind) (e .node)) (table .service) (table .controllers) → Coded table e writes code
   of-board : atRow (askOf (bodyIn table) (e .kind) (e .node)) ≡ false → atDesk (askOf (bodyIn table) (e .kind) (e .node)) ≡ false
       → code ≡ boardAnswer (askOf (bodyIn table) (e .kind) (e .node)) (table .streams) (table .claims) → Coded table e writes code
 
@@ -57,13 +57,13 @@ not-both e f = let w : _≡_ {A = ℕ} 0 1 = cc in absurd (omega arith)
 
 module _ (table : Table) (e : Event) (writes code : ℕ) where
   row-coded : Coded table e writes code → atRow (askOf (bodyIn table) (e .kind) (e .node)) ≡ true
-      → code ≡ rowAnswer (askOf (bodyIn table) (e .kind) (e .node)) writes (nodeOf (bodyIn table) (e .node)) (streamOf (bodyIn table) (e .node)) (table .claims)
+      → code ≡ rowAnswer (askOf (bodyIn table) (e .kind) (e .node)) writes (controllerOf (bodyIn table) (e .node)) (streamOf (bodyIn table) (e .node)) (table .claims)
   row-coded (of-row r c) h = c
   row-coded (of-desk r d c) h = absurd (not-both h r)
   row-coded (of-board r d c) h = absurd (not-both h r)
 
   desk-coded : Coded table e writes code → atRow (askOf (bodyIn table) (e .kind) (e .node)) ≡ false → atDesk (askOf (bodyIn table) (e .kind) (e .node)) ≡ true
-      → code ≡ deskAnswer (askOf (bodyIn table) (e .kind) (e .node)) (table .service) (table .nodes)
+      → code ≡ deskAnswer (askOf (bodyIn table) (e .kind) (e .node)) (table .service) (table .controllers)
   desk-coded (of-row r c) h k = absurd (not-both r h)
   desk-coded (of-desk r d c) h k = c
   desk-coded (of-board r d c) h k = absurd (not-both k d)
@@ -103,7 +103,7 @@ module _ {list : List ℕ} {t : Trailer} {out₀ : List ℕ} {i n : ℕ} {out : 
 
   answered : (code : ℕ) → Coded table e n code → (history : List S.Write) → length history ≡ n → code ≡ ofKind (kindOf (e .kind)) (e .node) (stateOf (bodyIn table) history) .answer
   answered code (of-row r c) history long = let k = row-at (askOf b (e .kind) (e .node)) r in
-      c ∙ ap (λ (j : ℕ). rowAnswer (askOf b (e .kind) (e .node)) j (nodeOf b (e .node)) (streamOf b (e .node)) (table .claims)) (sym long)
+      c ∙ ap (λ (j : ℕ). rowAnswer (askOf b (e .kind) (e .node)) j (controllerOf b (e .node)) (streamOf b (e .node)) (table .claims)) (sym long)
       ∙ row-answered b (e .node) (at-node (k .1)) history (e .kind) (k .0)
   answered code (of-desk r d c) history long = let k = desk-at (askOf b (e .kind) (e .node)) d in c ∙ desk-answered b (e .node) (at-node (k .1)) history (e .kind) (k .0)
   answered code (of-board r d c) history long = c ∙ board-answered b in-range (e .node) (e .kind) r d history
@@ -120,31 +120,31 @@ module _ {list : List ℕ} {t : Trailer} {out₀ : List ℕ} {i n : ℕ} {out : 
     pub at-row : At (bodyIn table) (e .node)
     at-row = at-node (row-at (askOf b (e .kind) (e .node)) y .1)
 
-    pub asks-row : RowAsks (askOf (bodyIn table) (e .kind) (e .node)) (nodeOf (bodyIn table) (e .node)) (streamOf (bodyIn table) (e .node))
+    pub asks-row : RowAsks (askOf (bodyIn table) (e .kind) (e .node)) (controllerOf (bodyIn table) (e .node)) (streamOf (bodyIn table) (e .node))
     asks-row = row-asks b (e .node) at-row (e .kind) row-of
 
   module _ (y : atRow (askOf (bodyIn table) (e .kind) (e .node)) ≡ true) (code : ℕ) (d : Coded table e n code) (z : code ≡ stepDone) where
-    c : code ≡ rowAnswer (askOf b (e .kind) (e .node)) n (nodeOf b (e .node)) (streamOf b (e .node)) (table .claims)
+    c : code ≡ rowAnswer (askOf b (e .kind) (e .node)) n (controllerOf b (e .node)) (streamOf b (e .node)) (table .claims)
     c = row-coded table e n code d y
 
-    pub goes-row : RowGoes (askOf (bodyIn table) (e .kind) (e .node)) (nodeOf (bodyIn table) (e .node)) (streamOf (bodyIn table) (e .node)) (table .claims)
+    pub goes-row : RowGoes (askOf (bodyIn table) (e .kind) (e .node)) (controllerOf (bodyIn table) (e .node)) (streamOf (bodyIn table) (e .node)) (table .claims)
     goes-row = row-goes b (e .node) (at-row y) n (e .kind) (row-of y) (sym c ∙ z)
 
     answerAt : ℕ → ℕ → ℕ
-    answerAt kind writes = rowAnswer (askOf b kind (e .node)) writes (nodeOf b (e .node)) (streamOf b (e .node)) (table .claims)
+    answerAt kind writes = rowAnswer (askOf b kind (e .node)) writes (controllerOf b (e .node)) (streamOf b (e .node)) (table .claims)
 
     row-done : (history : List S.Write) → length history ≡ n → answerAt (e .kind) (length history) ≡ stepDone
     unfolding answerAt
     row-done history long = ap (answerAt (e .kind)) long ∙ sym c ∙ z
 
-    pub learn-way : e .kind ≡ 3 → (x : Node) → x ≡ storeInbox (learnRule .effect (inboxOf (nodeOf (bodyIn table) (e .node)))) (nodeOf (bodyIn table) (e .node))
-        → Running list out₀ (i + 1) (set out i code) (withNode (e .node) x (bodyIn table)) n
+    pub learn-way : e .kind ≡ 3 → (x : Controller) → x ≡ storeInbox (learnRule .effect (inboxOf (controllerOf (bodyIn table) (e .node)))) (controllerOf (bodyIn table) (e .node))
+        → Running list out₀ (i + 1) (set out i code) (withController (e .node) x (bodyIn table)) n
     unfolding answerAt
-    learn-way f x g = quietly (withNode (e .node) x b) code stepDone z (λ history long.
-        subst (λ (j : ℕ). Leaves (e .node) history (ofKind (kindOf j) (e .node) (stateOf b history)) (plain stepDone (withNode (e .node) x b))) (sym f)
+    learn-way f x g = quietly (withController (e .node) x b) code stepDone z (λ history long.
+        subst (λ (j : ℕ). Leaves (e .node) history (ofKind (kindOf j) (e .node) (stateOf b history)) (plain stepDone (withController (e .node) x b))) (sym f)
         (learn-leaves b (e .node) (at-row y) history (subst (λ (j : ℕ). answerAt j (length history) ≡ stepDone) f (row-done history long)) x g))
 
-    module _ (h : e .kind ≢ 3) (r : Row) (f : r ≡ rowAfter (askOf (bodyIn table) (e .kind) (e .node)) (nodeOf (bodyIn table) (e .node)) (streamOf (bodyIn table) (e .node)) (table .claims)) where
+    module _ (h : e .kind ≢ 3) (r : Row) (f : r ≡ rowAfter (askOf (bodyIn table) (e .kind) (e .node)) (controllerOf (bodyIn table) (e .node)) (streamOf (bodyIn table) (e .node)) (table .claims)) where
       row-left : (history : List S.Write) → length history ≡ n → Leaves (e .node) history (ofKind (kindOf (e .kind)) (e .node) (stateOf b history)) (rowMoved b (e .node) r)
       unfolding answerAt
       row-left history long =
@@ -177,7 +177,7 @@ module _ {list : List ℕ} {t : Trailer} {out₀ : List ℕ} {i n : ℕ} {out : 
     a : At (bodyIn table) (e .node)
     a = at-node (desk-at (askOf b (e .kind) (e .node)) y .1)
 
-    desk-done : deskAnswer (askOf b (e .kind) (e .node)) (table .service) (table .nodes) ≡ stepDone
+    desk-done : deskAnswer (askOf b (e .kind) (e .node)) (table .service) (table .controllers) ≡ stepDone
     desk-done = sym (desk-coded table e n code c r y) ∙ z
 
     pub goes-desk : DeskGoes (askOf (bodyIn table) (e .kind) (e .node)) (table .service)
@@ -185,15 +185,15 @@ module _ {list : List ℕ} {t : Trailer} {out₀ : List ℕ} {i n : ℕ} {out : 
 
     module _ (x : Mastership) (f : x ≡ serviceAfter (askOf (bodyIn table) (e .kind) (e .node)) (table .service)) where
       pub post-way : posting (askOf (bodyIn table) (e .kind) (e .node)) (table .service) ≡ true
-          → Running list out₀ (i + 1) (set out i code) (withDesk x (mapFirst (hears x) (table .count) (table .nodes)) (bodyIn table)) n
+          → Running list out₀ (i + 1) (set out i code) (withDesk x (mapFirst (hears x) (table .count) (table .controllers)) (bodyIn table)) n
       post-way p =
-          quietly (withDesk x (mapFirst (hears x) (table .count) (table .nodes)) b) code stepDone z (λ history long.
+          quietly (withDesk x (mapFirst (hears x) (table .count) (table .controllers)) b) code stepDone z (λ history long.
           desk-posts b (e .node) a history (e .kind) desk-of desk-done p x f _
-          (all-heard (table .count) (table .nodes) (in-order-nodes b in-range) x (desk-written b (e .node) a (e .kind) desk-of desk-done x f) (desk-room b (e .node) a (e .kind) desk-of desk-done p)))
+          (all-heard (table .count) (table .controllers) (in-order-controllers b in-range) x (desk-written b (e .node) a (e .kind) desk-of desk-done x f) (desk-room b (e .node) a (e .kind) desk-of desk-done p)))
 
       pub quiet-way : posting (askOf (bodyIn table) (e .kind) (e .node)) (table .service) ≡ false
-          → Running list out₀ (i + 1) (set out i code) (withDesk x (table .nodes) (bodyIn table)) n
-      quiet-way p = quietly (withDesk x (table .nodes) b) code stepDone z (λ history long. desk-quiet b (e .node) a history (e .kind) desk-of desk-done p x f)
+          → Running list out₀ (i + 1) (set out i code) (withDesk x (table .controllers) (bodyIn table)) n
+      quiet-way p = quietly (withDesk x (table .controllers) b) code stepDone z (λ history long. desk-quiet b (e .node) a history (e .kind) desk-of desk-done p x f)
 
   -- ---- the switch and all streams
 

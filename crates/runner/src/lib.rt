@@ -29,14 +29,14 @@ fn fresh_table(nodes: u8) -> Table
 {
     let core = state::blank_core();
     let service = core.service;
-    let rows = core.nodes;
+    let rows = core.controllers;
     let streams = core.streams;
     let claims = core.claims;
     Table {
         count: nodes,
         running: true,
         service: service,
-        nodes: rows,
+        controllers: rows,
         streams: streams,
         claims: claims,
     }
@@ -70,9 +70,9 @@ fn run_records(list: &[u8], trailer: Trailer, out: &mut [u8]) -> u16
     while i < trailer.records {
         if reached < table.count {
             let at = reached as usize;
-            let node = table.nodes[at];
+            let controller = table.controllers[at];
             let service = table.service;
-            table.nodes[at] = service::hear(node, service);
+            table.controllers[at] = service::hear(controller, service);
             reached += 1;
             continue;
         }
@@ -81,17 +81,17 @@ fn run_records(list: &[u8], trailer: Trailer, out: &mut [u8]) -> u16
             count: table.count,
             running: table.running,
             kind: event.kind,
-            number: event.node,
+            node: event.node,
         };
         let code = if asks::at_row(ask) {
-            let at = (ask.number - 1) as usize;
-            let node = table.nodes[at];
+            let at = (ask.node - 1) as usize;
+            let controller = table.controllers[at];
             let stream = table.streams[at];
             let claims = table.claims;
-            turns::row_code(ask, writes, node, stream, claims)
+            turns::row_code(ask, writes, controller, stream, claims)
         } else if asks::at_desk(ask) {
             let service = table.service;
-            let rows = table.nodes;
+            let rows = table.controllers;
             turns::desk_code(ask, service, rows)
         } else {
             let streams = table.streams;
@@ -104,19 +104,19 @@ fn run_records(list: &[u8], trailer: Trailer, out: &mut [u8]) -> u16
             continue;
         }
         if asks::at_row(ask) {
-            let at = (ask.number - 1) as usize;
-            let node = table.nodes[at];
+            let at = (ask.node - 1) as usize;
+            let controller = table.controllers[at];
             if ask.kind == turns::LEARN {
-                table.nodes[at] = nodes::learn(node);
+                table.controllers[at] = nodes::learn(controller);
                 continue;
             }
             let stream = table.streams[at];
             let claims = table.claims;
-            let row = turns::row_after(ask, node, stream, claims);
+            let row = turns::row_after(ask, controller, stream, claims);
             let next = row.stream;
             let held = row.claims;
             let entry = row.entry;
-            table.nodes[at].says = row.says;
+            table.controllers[at].says = row.says;
             table.streams[at] = next;
             table.claims = held;
             writes = keep(&mut *out, trailer.records, writes, entry);

@@ -13,7 +13,7 @@ use Rattle.parts.specs.Hold.{holdMastership}
 use Rattle.parts.specs.Queues.{pushEvent}
 use Rattle.parts.specs.Ordered.{OrderedMastership}
 use Rattle.parts.specs.declared.Mastership.{Mastership}
-use Rattle.state.specs.declared.Node.{Node}
+use Rattle.state.specs.declared.Controller.{Controller}
 
 -- The service's mastership, with room for one backup more where it has a master.
 pub record Joins (m : Mastership) : Type 0 where
@@ -40,7 +40,7 @@ pub record Leaves (m : Mastership) (n : ℕ) : Type 0 where
   pub among : has n (holdMastership m .backups) ≡ true
 
 -- A node that hears of a mastership.
-abbrev pub hears : Mastership → Node → Node
+abbrev pub hears : Mastership → Controller → Controller
 hears m r = record { events = pushEvent (r .events) m; learned = r .learned; says = r .says }
 
 -- The place of the i-th that is kept, where the one at `gone` is not.

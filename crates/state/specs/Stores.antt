@@ -6,18 +6,18 @@ use Rattle.rules.specs.State as S
 use Rattle.rules.specs.Parts.{Inbox, Sent, Received, Telling, Serving, tellPart}
 use Rattle.seqs.specs.Columns.{column}
 use Rattle.parts.specs.Hold.{packMastership, packEvents, packRequests, packResponses}
-use Rattle.state.specs.Hold.{learnedAt, saysAt, holdBoard, packNodes, packStreams, packClaims}
-use Rattle.state.specs.declared.Node.{Node}
+use Rattle.state.specs.Hold.{learnedAt, saysAt, holdBoard, packControllers, packStreams, packClaims}
+use Rattle.state.specs.declared.Controller.{Controller}
 use Rattle.state.specs.declared.Stream.{Stream}
 use Rattle.state.specs.declared.Claims.{Claims}
 use Rattle.state.specs.declared.Board.{Board}
 
 -- 1, 2: all event queues anew
-abbrev pub storeEvents : List (List S.Mastership) → ℕ → List Node → List Node
-storeEvents events count nodes = packNodes events (column learnedAt count nodes) (column saysAt count nodes)
+abbrev pub storeEvents : List (List S.Mastership) → ℕ → List Controller → List Controller
+storeEvents events count controllers = packControllers events (column learnedAt count controllers) (column saysAt count controllers)
 
 -- 3
-abbrev pub storeInbox : Inbox → Node → Node
+abbrev pub storeInbox : Inbox → Controller → Controller
 storeInbox w r = record { events = packEvents (w .events); learned = packMastership (w .learned); says = r .says }
 
 -- 4, 6
@@ -25,7 +25,7 @@ abbrev pub storeSent : Sent → Stream → Stream
 storeSent w s = record { opened = s .opened; sent = record { 0 = w .sent }; requests = packRequests (w .requests); responses = s .responses }
 
 -- 5, 7
-abbrev pub storeSays : Received → Node → Node
+abbrev pub storeSays : Received → Controller → Controller
 storeSays w r = record { events = r .events; learned = r .learned; says = w .says }
 
 abbrev pub storeReceived : Received → Stream → Stream

@@ -16,7 +16,7 @@ use Rattle.parts.specs.declared.Response.{Response}
 use Rattle.parts.specs.declared.ElectionId.{ElectionId}
 use Rattle.parts.specs.declared.Term.{Term}
 use Rattle.state.specs.Hold.{hold}
-use Rattle.state.specs.declared.Node.{Node}
+use Rattle.state.specs.declared.Controller.{Controller}
 use Rattle.state.specs.declared.Stream.{Stream}
 use Rattle.state.specs.declared.Core.{Core}
 use Rattle.state.specs.declared.Write.{Write}
@@ -62,8 +62,8 @@ tidyResponse r = not (noMessage (r .message)) && not (noStatus (r .status))
 unfoldable pub tidyPlaces : {B : Type 0} → ℕ → (B → Bool) → (B → Bool) → List B → ℕ → Bool
 tidyPlaces size tidy blank items len = leb len size && all tidy (take len items) && all blank (drop len items)
 
-unfoldable pub tidyNode : Node → Bool
-tidyNode r = tidyPlaces queueLength tidyMastership blankMastership (r .events .items) (r .events .len) && tidyMastership (r .learned)
+unfoldable pub tidyController : Controller → Bool
+tidyController r = tidyPlaces queueLength tidyMastership blankMastership (r .events .items) (r .events .len) && tidyMastership (r .learned)
 
 unfoldable pub tidyStream : Stream → Bool
 tidyStream r =
@@ -72,8 +72,8 @@ tidyStream r =
 
 -- ---- rows above N
 
-unfoldable pub blankNode : Node → Bool
-blankNode r = all blankMastership (r .events .items) && isZero (r .events .len) && blankMastership (r .learned) && not (r .says)
+unfoldable pub blankController : Controller → Bool
+blankController r = all blankMastership (r .events .items) && isZero (r .events .len) && blankMastership (r .learned) && not (r .says)
 
 unfoldable pub blankStream : Stream → Bool
 blankStream r =
@@ -90,7 +90,7 @@ blankTerm t = isZero (t .0)
 unfoldable pub tidyCore : ℕ → Core → Bool
 tidyCore count c =
     tidyMastership (c .service)
-    && all tidyNode (take count (c .nodes)) && all blankNode (drop count (c .nodes))
+    && all tidyController (take count (c .controllers)) && all blankController (drop count (c .controllers))
     && all tidyStream (take count (c .streams)) && all blankStream (drop count (c .streams))
     && all blankId (drop count (c .claims .ids)) && all blankTerm (drop count (c .claims .terms))
 

@@ -11,7 +11,7 @@ use parts::ResponseQueue;
 use parts::Term;
 
 // A controller node. `says` is the flag "device says master".
-pub struct Node {
+pub struct Controller {
     pub events: EventQueue,
     pub learned: Mastership,
     pub says: bool,
@@ -35,7 +35,7 @@ pub struct Claims {
 // What one role owns.
 pub struct Core {
     pub service: Mastership,
-    pub nodes: [Node; 8],
+    pub controllers: [Controller; 8],
     pub streams: [Stream; 8],
     pub claims: Claims,
 }
@@ -76,7 +76,7 @@ pub struct Table {
     pub count: u8,
     pub running: bool,
     pub service: Mastership,
-    pub nodes: [Node; 8],
+    pub controllers: [Controller; 8],
     pub streams: [Stream; 8],
     pub claims: Claims,
 }
@@ -94,7 +94,7 @@ pub fn blank_core() -> Core
     ensures { λ r. ⌜ ((count : ℕ) → r ≡ packCore (fresh count .core)) ⌝ }
 {
     let blank = Mastership::blank();
-    let node = Node {
+    let controller = Controller {
         events: EventQueue::empty(),
         learned: blank,
         says: false,
@@ -112,7 +112,7 @@ pub fn blank_core() -> Core
     };
     Core {
         service: blank,
-        nodes: [node; 8],
+        controllers: [controller; 8],
         streams: [stream; 8],
         claims: claims,
     }

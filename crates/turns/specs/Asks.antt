@@ -8,8 +8,8 @@ use Rattle.rules.specs.Codes.{stepDone}
 use Rattle.rules.specs.Limits.{queueLength}
 use Rattle.rules.specs.Rules.{closeRule, handleUpdateRule}
 use Rattle.parts.specs.declared.Mastership.{Mastership}
-use Rattle.state.specs.Order.{OrderedNode, OrderedStream, OrderedBoard}
-use Rattle.state.specs.declared.Node.{Node}
+use Rattle.state.specs.Order.{OrderedController, OrderedStream, OrderedBoard}
+use Rattle.state.specs.declared.Controller.{Controller}
 use Rattle.state.specs.declared.Stream.{Stream}
 use Rattle.state.specs.declared.Claims.{Claims}
 use Rattle.service.specs.Asks.{Joins, Leaving}
@@ -22,34 +22,34 @@ use Rattle.asks.specs.Kinds.{RowKind, DeskKind, BoardKind}
 use Rattle.asks.specs.declared.Ask.{Ask}
 
 -- A node and its stream, both in order.
-pub record RowAsks (a : Ask) (node : Node) (stream : Stream) : Type 0 where
+pub record RowAsks (a : Ask) (controller : Controller) (stream : Stream) : Type 0 where
   pub kind : RowKind (a .kind)
-  pub within : IsNode (a .count) (a .number)
-  pub ordered-node : OrderedNode node
+  pub within : IsNode (a .count) (a .node)
+  pub ordered-controller : OrderedController controller
   pub ordered-stream : OrderedStream stream
 
 -- The same, where the answer is 0, with what the answer shows.
-pub record RowGoes (a : Ask) (node : Node) (stream : Stream) (claims : Claims) : Type 0 where
-  pub asks : RowAsks a node stream
+pub record RowGoes (a : Ask) (controller : Controller) (stream : Stream) (claims : Claims) : Type 0 where
+  pub asks : RowAsks a controller stream
   pub roomy : (a .kind ≡ 4) ⊎ (a .kind ≡ 6) → leb queueLength (stream .requests .len) ≡ false
   pub waits : a .kind ≡ 5 → Waits stream
-  pub can-write : a .kind ≡ 11 → CanWrite (a .count) (a .number) stream claims
+  pub can-write : a .kind ≡ 11 → CanWrite (a .count) (a .node) stream claims
 
 -- A service that a node joins or leaves, where the answer is 0.
 pub record DeskGoes (a : Ask) (service : Mastership) : Type 0 where
   pub kind : DeskKind (a .kind)
   pub joins : a .kind ≡ 1 → Joins service
-  pub leaving : a .kind ≡ 2 → Leaving service (a .number)
+  pub leaving : a .kind ≡ 2 → Leaving service (a .node)
 
 -- The streams and what the switch holds, in order; one of the nodes where the kind calls for one.
 pub record BoardAsks (a : Ask) (streams : List Stream) (claims : Claims) : Type 0 where
   pub board : OrderedBoard (a .count) streams claims
   pub kind : existence a ≡ stepDone → BoardKind (a .kind)
-  pub within : existence a ≡ stepDone → (a .kind ≡ 9) ⊎ (a .kind ≡ 10) → AtBoard (a .count) (a .number) streams claims
+  pub within : existence a ≡ stepDone → (a .kind ≡ 9) ⊎ (a .kind ≡ 10) → AtBoard (a .count) (a .node) streams claims
 
 -- The same, where the answer is 0.
 pub record BoardGoes (a : Ask) (streams : List Stream) (claims : Claims) : Type 0 where
   pub board : OrderedBoard (a .count) streams claims
   pub kind : BoardKind (a .kind)
-  pub closes : a .kind ≡ 9 → Tells closeRule (a .count) (a .number) streams claims
-  pub updates : a .kind ≡ 10 → Tells handleUpdateRule (a .count) (a .number) streams claims
+  pub closes : a .kind ≡ 9 → Tells closeRule (a .count) (a .node) streams claims
+  pub updates : a .kind ≡ 10 → Tells handleUpdateRule (a .count) (a .node) streams claims

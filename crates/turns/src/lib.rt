@@ -4,7 +4,7 @@ ghost use mathlib.Core.Path.{_≡_};
 ghost use mathlib.Core.Logic.{_≢_};
 ghost use mathlib.Core.Bool.{cond};
 ghost use Rattle.rules.specs.Codes.{stepDone, notAllowed};
-ghost use Rattle.state.specs.Order.{OrderedNodes};
+ghost use Rattle.state.specs.Order.{OrderedControllers};
 ghost use Rattle.asks.specs.Classes.{existence};
 ghost use Rattle.nodes.specs.Waiting.{Waits};
 ghost use Rattle.writing.specs.Asks.{CanWrite};
@@ -14,7 +14,7 @@ use asks::Ask;
 use parts::Mastership;
 use parts::Term;
 use state::Claims;
-use state::Node;
+use state::Controller;
 use state::Stream;
 use state::Board;
 
@@ -48,37 +48,37 @@ fn allowed_code(allowed: bool) -> u8
 }
 
 // At a node and its stream. The history holds `writes`.
-pub fn row_code(ask: Ask, writes: u16, node: Node, stream: Stream, claims: Claims) -> u8
-    requires { ⌜ RowAsks ask node stream ⌝ }
-    ensures { λ r. ⌜ r ≡ rowAnswer ask writes node stream claims ⌝ }
+pub fn row_code(ask: Ask, writes: u16, controller: Controller, stream: Stream, claims: Claims) -> u8
+    requires { ⌜ RowAsks ask controller stream ⌝ }
+    ensures { λ r. ⌜ r ≡ rowAnswer ask writes controller stream claims ⌝ }
 {
     let kind = ask.kind;
     match kind {
-        3 => allowed_code(nodes::may_learn(node)),
+        3 => allowed_code(nodes::may_learn(controller)),
         4 => nodes::send_code(
-            nodes::may_send_update(ask.count, ask.number, node, stream),
+            nodes::may_send_update(ask.count, ask.node, controller, stream),
             stream,
         ),
         5 => allowed_code(nodes::may_receive_update(stream)),
         6 => nodes::send_code(
-            nodes::may_send_write(ask.count, ask.number, node, stream),
+            nodes::may_send_write(ask.count, ask.node, controller, stream),
             stream,
         ),
         7 => allowed_code(nodes::may_receive_write(stream)),
         8 => switch::connect_code(ask.running, stream),
-        _ => writing::handle_write_code(ask.count, ask.number, ask.running, stream, claims, writes),
+        _ => writing::handle_write_code(ask.count, ask.node, ask.running, stream, claims, writes),
     }
 }
 
 // Of the service.
-pub fn desk_code(ask: Ask, service: Mastership, nodes: [Node; 8]) -> u8
-    requires { ⌜ OrderedNodes (ask .count) nodes ⌝ }
-    ensures { λ r. ⌜ r ≡ deskAnswer ask service nodes ⌝ }
+pub fn desk_code(ask: Ask, service: Mastership, controllers: [Controller; 8]) -> u8
+    requires { ⌜ OrderedControllers (ask .count) controllers ⌝ }
+    ensures { λ r. ⌜ r ≡ deskAnswer ask service controllers ⌝ }
 {
     if ask.kind == 1 {
-        return service::join_code(ask.count, ask.number, service, nodes);
+        return service::join_code(ask.count, ask.node, service, controllers);
     }
-    service::leave_code(ask.count, ask.number, service, nodes)
+    service::leave_code(ask.count, ask.node, service, controllers)
 }
 
 fn switch_code(ask: Ask, streams: [Stream; 8], claims: Claims) -> u8
@@ -87,8 +87,8 @@ fn switch_code(ask: Ask, streams: [Stream; 8], claims: Claims) -> u8
 {
     let kind = ask.kind;
     match kind {
-        9 => switch::close_code(ask.count, ask.number, streams, claims),
-        10 => switch::handle_update_code(ask.count, ask.number, ask.running, streams, claims),
+        9 => switch::close_code(ask.count, ask.node, streams, claims),
+        10 => switch::handle_update_code(ask.count, ask.node, ask.running, streams, claims),
         12 => allowed_code(ask.running),
         _ => allowed_code(!ask.running),
     }
@@ -109,38 +109,38 @@ pub fn board_code(ask: Ask, streams: [Stream; 8], claims: Claims) -> u8
 // ---- what is left
 
 // The stream alone has changed.
-fn quiet(ask: Ask, node: Node, claims: Claims, stream: Stream) -> Row
-    ensures { λ r. ⌜ r ≡ quiet ask node claims stream ⌝ }
+fn quiet(ask: Ask, controller: Controller, claims: Claims, stream: Stream) -> Row
+    ensures { λ r. ⌜ r ≡ quiet ask controller claims stream ⌝ }
 {
     let entry = Entry {
         accepted: false,
-        node: ask.number,
+        node: ask.node,
         term: Term(0),
     };
     Row {
         stream: stream,
-        says: node.says,
+        says: controller.says,
         claims: claims,
         entry: entry,
     }
 }
 
 // Receive update: the flag too.
-fn flagged(ask: Ask, node: Node, stream: Stream, claims: Claims) -> Row
+fn flagged(ask: Ask, controller: Controller, stream: Stream, claims: Claims) -> Row
     requires { ⌜ Waits stream ⌝ }
-    ensures { λ r. ⌜ r ≡ flaggedRow ask node stream claims ⌝ }
+    ensures { λ r. ⌜ r ≡ flaggedRow ask controller stream claims ⌝ }
 {
-    let mut next = quiet(ask, node, claims, nodes::receive(stream));
-    next.says = nodes::confirmed(ask.count, ask.number, node, stream);
+    let mut next = quiet(ask, controller, claims, nodes::receive(stream));
+    next.says = nodes::confirmed(ask.count, ask.node, controller, stream);
     next
 }
 
 // Handle write: the last accepted term, and the write.
-fn written(ask: Ask, node: Node, stream: Stream, claims: Claims) -> Row
-    requires { ⌜ CanWrite (ask .count) (ask .number) stream claims ⌝ }
-    ensures { λ r. ⌜ r ≡ writtenRow ask node stream claims ⌝ }
+fn written(ask: Ask, controller: Controller, stream: Stream, claims: Claims) -> Row
+    requires { ⌜ CanWrite (ask .count) (ask .node) stream claims ⌝ }
+    ensures { λ r. ⌜ r ≡ writtenRow ask controller stream claims ⌝ }
 {
-    let handled = writing::handle_write(ask.count, ask.number, stream, claims);
+    let handled = writing::handle_write(ask.count, ask.node, stream, claims);
     let next = handled.stream;
     let last = handled.last;
     let term = handled.term;
@@ -148,40 +148,40 @@ fn written(ask: Ask, node: Node, stream: Stream, claims: Claims) -> Row
     held.last = last;
     let entry = Entry {
         accepted: handled.accepted,
-        node: ask.number,
+        node: ask.node,
         term: term,
     };
     Row {
         stream: next,
-        says: node.says,
+        says: controller.says,
         claims: held,
         entry: entry,
     }
 }
 
 // Of a node and its stream, by every kind but Learn.
-pub fn row_after(ask: Ask, node: Node, stream: Stream, claims: Claims) -> Row
-    requires { ⌜ RowGoes ask node stream claims × (ask .kind ≢ 3) ⌝ }
-    ensures { λ r. ⌜ r ≡ rowAfter ask node stream claims ⌝ }
+pub fn row_after(ask: Ask, controller: Controller, stream: Stream, claims: Claims) -> Row
+    requires { ⌜ RowGoes ask controller stream claims × (ask .kind ≢ 3) ⌝ }
+    ensures { λ r. ⌜ r ≡ rowAfter ask controller stream claims ⌝ }
 {
     let kind = ask.kind;
     match kind {
         4 => quiet(
             ask,
-            node,
+            controller,
             claims,
-            nodes::send_update(ask.count, ask.number, node, stream),
+            nodes::send_update(ask.count, ask.node, controller, stream),
         ),
-        5 => flagged(ask, node, stream, claims),
+        5 => flagged(ask, controller, stream, claims),
         6 => quiet(
             ask,
-            node,
+            controller,
             claims,
-            nodes::send_write(ask.count, ask.number, node, stream),
+            nodes::send_write(ask.count, ask.node, controller, stream),
         ),
-        7 => quiet(ask, node, claims, nodes::receive(stream)),
-        8 => quiet(ask, node, claims, switch::connect(stream)),
-        _ => written(ask, node, stream, claims),
+        7 => quiet(ask, controller, claims, nodes::receive(stream)),
+        8 => quiet(ask, controller, claims, switch::connect(stream)),
+        _ => written(ask, controller, stream, claims),
     }
 }
 
@@ -191,9 +191,9 @@ pub fn service_after(ask: Ask, service: Mastership) -> Mastership
     ensures { λ r. ⌜ r ≡ serviceAfter ask service ⌝ }
 {
     if ask.kind == 1 {
-        return service::joined(service, ask.number);
+        return service::joined(service, ask.node);
     }
-    service::left(service, ask.number)
+    service::left(service, ask.node)
 }
 
 // Whether the nodes hear of it.
@@ -203,7 +203,7 @@ pub fn posts(ask: Ask, service: Mastership) -> bool
     if ask.kind == 1 {
         return true;
     }
-    service::hands_over(service, ask.number)
+    service::hands_over(service, ask.node)
 }
 
 // Of the streams and what the switch holds.
@@ -213,8 +213,8 @@ pub fn board_after(ask: Ask, streams: [Stream; 8], claims: Claims) -> Board
 {
     let kind = ask.kind;
     match kind {
-        9 => switch::close(ask.count, ask.number, streams, claims),
-        10 => switch::handle_update(ask.count, ask.number, streams, claims),
+        9 => switch::close(ask.count, ask.node, streams, claims),
+        10 => switch::handle_update(ask.count, ask.node, streams, claims),
         12 => switch::shutdown(ask.count, streams, claims),
         _ => Board {
             streams: streams,

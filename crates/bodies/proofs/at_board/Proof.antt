@@ -16,7 +16,7 @@ board-code-requires : tie.Need-board-code-requires
 board-code-requires c κs =
     let start = c .before .before .before in
     let b = start .args .body in
-    let n = start .args .number in
+    let n = start .args .node in
     let k = start .args .kind in
     board-asks b (start .pre .0) n k (start .pre .1) (start .pre .2)
 
@@ -24,7 +24,7 @@ board-after-requires : tie.Need-board-after-requires
 board-after-requires c κs =
     let start = c .before .before .before .before .before in
     let b = start .args .body in
-    let n = start .args .number in
+    let n = start .args .node in
     let k = start .args .kind in
     board-goes b (start .pre .0) n k (start .pre .1) (start .pre .2) (sym (c .before .board-code .ensures) ∙ c .if1 .taken)
 
@@ -41,7 +41,7 @@ returns : tie.Need-returns
 returns c = λ history.
     let start = c .before .before .before .before .before .before .before .before .before in
     let b = start .args .body in
-    let n = start .args .number in
+    let n = start .args .node in
     let k = start .args .kind in
     let x = c .before .before .before .board-after in
     leaves-as n history _ _ (c .plain .result)
@@ -55,7 +55,7 @@ returns-2 : tie.Need-returns-2
 returns-2 c = λ history.
     let start = c .before .before .before .before .before .before in
     let b = start .args .body in
-    let n = start .args .number in
+    let n = start .args .node in
     let k = start .args .kind in
     let coded = c .before .before .board-code in
     leaves-as n history _ _ (c .plain2 .result) (c .plain2 .ensures)

@@ -9,12 +9,12 @@ use Rattle.rules.specs.Step.{Event, fresh}
 use Rattle.state.specs.declared.Body.{Body}
 use Rattle.state.specs.declared.Table.{Table}
 use Rattle.moves.specs.Sets.{withBoard}
-use Rattle.moves.specs.Stored.{few, in-order-nodes}
+use Rattle.moves.specs.Stored.{few, in-order-controllers}
 use Rattle.asks.specs.declared.Ask.{Ask}
 use Rattle.asks.specs.Classes.{atRow, atDesk}
 use Rattle.turns.specs.Called.{askOf}
 use Rattle.turns.specs.At.{At}
-use Rattle.turns.specs.Nodes.{node-ordered}
+use Rattle.turns.specs.Nodes.{controller-ordered}
 use Rattle.runner.specs.Tables.{bodyIn, pending, settled, heard}
 use Rattle.runner.specs.Running.{Running, starts, keeps-length, ready, ends}
 use Rattle.runner.specs.Turning.{Coded, of-row, of-desk, of-board, Turn, in-range, refused-way, at-row, asks-row, goes-row, learn-way, row-room, row-way, goes-desk, post-way, quiet-way, asks-board, goes-board, board-way, same-body, unposted}
@@ -115,13 +115,13 @@ cast-at c =
     let f = few-nodes (c .before .before .before) in
     omega arith
 
-mul-node : tie.Need-mul-node Inv-loop μ-loop
-mul-node c =
+mul-controller : tie.Need-mul-controller Inv-loop μ-loop
+mul-controller c =
     let f = few-nodes (c .before .before .before) in
     omega arith
 
-element-copy-out-node : tie.Need-element-copy-out-node Inv-loop μ-loop
-element-copy-out-node c =
+element-copy-out-controller : tie.Need-element-copy-out-controller Inv-loop μ-loop
+element-copy-out-controller c =
     let f = few-nodes (c .before .before .before) in
     omega arith
 
@@ -170,13 +170,13 @@ cast-at-2 c =
     let a = node-first (c .before) in
     omega arith
 
-mul-node-2 : tie.Need-mul-node-2 Inv-loop μ-loop
-mul-node-2 c =
+mul-controller-2 : tie.Need-mul-controller-2 Inv-loop μ-loop
+mul-controller-2 c =
     let a = node-first (c .before) in
     omega arith
 
-element-copy-out-node-2 : tie.Need-element-copy-out-node-2 Inv-loop μ-loop
-element-copy-out-node-2 c =
+element-copy-out-controller-2 : tie.Need-element-copy-out-controller-2 Inv-loop μ-loop
+element-copy-out-controller-2 c =
     let a = node-first (c .before) in
     omega arith
 
@@ -197,7 +197,7 @@ at-desk-requires : tie.Need-at-desk-requires Inv-loop μ-loop
 at-desk-requires c κs = search needs
 
 desk-code-requires : tie.Need-desk-code-requires Inv-loop μ-loop
-desk-code-requires c κs = in-order-nodes _ (in-range (turn (c .before .before .before .before .before .before)))
+desk-code-requires c κs = in-order-controllers _ (in-range (turn (c .before .before .before .before .before .before)))
 
 board-code-requires : tie.Need-board-code-requires Inv-loop μ-loop
 board-code-requires c κs =
@@ -238,18 +238,18 @@ cast-at-3 c =
     let a = node-again (c .before) in
     omega arith
 
-mul-node-3 : tie.Need-mul-node-3 Inv-loop μ-loop
-mul-node-3 c =
+mul-controller-3 : tie.Need-mul-controller-3 Inv-loop μ-loop
+mul-controller-3 c =
     let a = node-again (c .before) in
     omega arith
 
-element-copy-out-node-3 : tie.Need-element-copy-out-node-3 Inv-loop μ-loop
-element-copy-out-node-3 c =
+element-copy-out-controller-3 : tie.Need-element-copy-out-controller-3 Inv-loop μ-loop
+element-copy-out-controller-3 c =
     let a = node-again (c .before) in
     omega arith
 
 learn-requires : tie.Need-learn-requires Inv-loop μ-loop
-learn-requires c κs = node-ordered _ _ (node-again (c .before .before .before .before))
+learn-requires c κs = controller-ordered _ _ (node-again (c .before .before .before .before))
 
 mul-t67 : tie.Need-mul-t67 Inv-loop μ-loop
 mul-t67 c =
@@ -430,8 +430,8 @@ run-records-spec =
     fresh-table-requires
     loop-holds
     cast-at
-    mul-node
-    element-copy-out-node
+    mul-controller
+    element-copy-out-controller
     hear-requires
     mul-t40
     element-set-from-table
@@ -442,8 +442,8 @@ run-records-spec =
     at-row-requires
     sub-at
     cast-at-2
-    mul-node-2
-    element-copy-out-node-2
+    mul-controller-2
+    element-copy-out-controller-2
     mul-stream
     element-copy-out-stream
     row-code-requires
@@ -457,8 +457,8 @@ run-records-spec =
     at-row-requires-2
     sub-at-2
     cast-at-3
-    mul-node-3
-    element-copy-out-node-3
+    mul-controller-3
+    element-copy-out-controller-3
     learn-requires
     mul-t67
     element-set-from-table-2

@@ -33,7 +33,7 @@ returns-2 : tie.Need-returns-2
 returns-2 c =
     let at-if1 = c .before .before in
     let at-before = at-if1 .before in
-    let start = at-before .before in joined-backup (start .args .service) (start .pre .ordered) (start .args .number) (at-if1 .if1 .left) (start .pre .spare (at-if1 .if1 .left))
+    let start = at-before .before in joined-backup (start .args .service) (start .pre .ordered) (start .args .node) (at-if1 .if1 .left) (start .pre .spare (at-if1 .if1 .left))
 
 pub joined-spec : {M : Type 1} → statement M
 joined-spec = tie.close (tie.spec add-t6 returns cast-at element-write-next add-next returns-2)

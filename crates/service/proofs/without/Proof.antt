@@ -17,20 +17,20 @@ use Rattle.service.proofs.without.Statement.{statement}
 use Rattle.service.proofs.without.Tie as tie
 
 abbrev Inv-loop : tie.InvT-loop
-Inv-loop number m place gone kept backups₀ i₀ backups i = (i ≤ kept) × (backups ≡ padded 0 asIs 7 (take i (remove number (take (m .len) (m .backups)))))
+Inv-loop node m place gone kept backups₀ i₀ backups i = (i ≤ kept) × (backups ≡ padded 0 asIs 7 (take i (remove node (take (m .len) (m .backups)))))
 
 abbrev μ-loop : tie.MeasureT-loop
-μ-loop number m place gone kept backups₀ i₀ backups i = kept - i
+μ-loop node m place gone kept backups₀ i₀ backups i = kept - i
 
 -- one backup goes, and as many are kept as there are others
-sizes : (c : tie.Start Inv-loop μ-loop) → suc (length (remove (c .args .number) (holdMastership (c .args .t1) .backups))) ≡ c .args .t1 .len
-sizes c = removed-length (c .args .number) (holdMastership (c .args .t1) .backups) (c .pre .among) ∙ sym (backups-len (c .args .t1) (c .pre .ordered))
+sizes : (c : tie.Start Inv-loop μ-loop) → suc (length (remove (c .args .node) (holdMastership (c .args .t1) .backups))) ≡ c .args .t1 .len
+sizes c = removed-length (c .args .node) (holdMastership (c .args .t1) .backups) (c .pre .among) ∙ sym (backups-len (c .args .t1) (c .pre .ordered))
 
 few : (c : tie.Start Inv-loop μ-loop) → c .args .t1 .len ≤ 7
 few c = let n = backups-len (c .args .t1) (c .pre .ordered) in let s = c .pre .ordered .short in omega arith
 
 -- its place is that of the node among the backups
-gone : (c : tie.After-place-of Inv-loop μ-loop) → c .place-of .result ≡ before (c .before .args .number) (holdMastership (c .before .args .t1) .backups) + 1
+gone : (c : tie.After-place-of Inv-loop μ-loop) → c .place-of .result ≡ before (c .before .args .node) (holdMastership (c .before .args .t1) .backups) + 1
 unfolding placeOf
 gone c = c .place-of .ensures ∙ simp (ne-eqb _ _ (c .before .pre .other))
 
@@ -75,7 +75,7 @@ loop-again c =
     let turn = c .before .before .before in
     let start = turn .before .before in
     let m = start .args .t1 in
-    let n = start .args .number in
+    let n = start .args .node in
     let l = holdMastership m .backups in
     let i = turn .loop .i in
     let from = c .before .skip .result in
@@ -96,7 +96,7 @@ returns c =
     let turn = c .before .before in
     let start = turn .before .before in
     let m = start .args .t1 in
-    let kept = remove (start .args .number) (holdMastership m .backups) in
+    let kept = remove (start .args .node) (holdMastership m .backups) in
     let k = sizes start in
     let n : turn .loop .i ≡ length kept = omega arith in
     λ i. record {

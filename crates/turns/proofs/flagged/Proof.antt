@@ -18,7 +18,7 @@ returns : tie.Need-returns
 returns c =
     let at-quiet = c .before in
     let start = at-quiet .before .before in
-    let made = at-quiet .quiet .ensures ∙ ap (quiet (start .args .ask) (start .args .node) (start .args .claims)) (at-quiet .before .receive .ensures) in
+    let made = at-quiet .quiet .ensures ∙ ap (quiet (start .args .ask) (start .args .controller) (start .args .claims)) (at-quiet .before .receive .ensures) in
     λ i. record { stream = made i .stream; says = c .confirmed .ensures i; claims = made i .claims; entry = made i .entry }
 
 pub flagged-spec : {M : Type 1} → statement M

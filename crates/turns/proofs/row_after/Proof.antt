@@ -40,7 +40,7 @@ written-requires c κs = let m = c .match in let start = c .before in start .pre
 returns : tie.Need-returns
 returns c =
     let start = c .before .before .before in
-    rw (c .before .before .match .keys1) (c .quiet .ensures ∙ ap (quiet (start .args .ask) (start .args .node) (start .args .claims)) (c .before .send-update .ensures))
+    rw (c .before .before .match .keys1) (c .quiet .ensures ∙ ap (quiet (start .args .ask) (start .args .controller) (start .args .claims)) (c .before .send-update .ensures))
 
 returns-2 : tie.Need-returns-2
 returns-2 c = rw (c .before .match .keys2) (c .flagged .ensures)
@@ -48,17 +48,17 @@ returns-2 c = rw (c .before .match .keys2) (c .flagged .ensures)
 returns-3 : tie.Need-returns-3
 returns-3 c =
     let start = c .before .before .before in
-    rw (c .before .before .match .keys3) (c .quiet2 .ensures ∙ ap (quiet (start .args .ask) (start .args .node) (start .args .claims)) (c .before .send-write .ensures))
+    rw (c .before .before .match .keys3) (c .quiet2 .ensures ∙ ap (quiet (start .args .ask) (start .args .controller) (start .args .claims)) (c .before .send-write .ensures))
 
 returns-4 : tie.Need-returns-4
 returns-4 c =
     let start = c .before .before .before in
-    rw (c .before .before .match .keys4) (c .quiet3 .ensures ∙ ap (quiet (start .args .ask) (start .args .node) (start .args .claims)) (c .before .receive .ensures))
+    rw (c .before .before .match .keys4) (c .quiet3 .ensures ∙ ap (quiet (start .args .ask) (start .args .controller) (start .args .claims)) (c .before .receive .ensures))
 
 returns-5 : tie.Need-returns-5
 returns-5 c =
     let start = c .before .before .before in
-    rw (c .before .before .match .keys5) (c .quiet4 .ensures ∙ ap (quiet (start .args .ask) (start .args .node) (start .args .claims)) (c .before .connect .ensures))
+    rw (c .before .before .match .keys5) (c .quiet4 .ensures ∙ ap (quiet (start .args .ask) (start .args .controller) (start .args .claims)) (c .before .connect .ensures))
 
 returns-6 : tie.Need-returns-6
 returns-6 c =

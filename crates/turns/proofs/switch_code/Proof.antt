@@ -22,7 +22,7 @@ allowed-code-requires-2 c κs = search needs
 returns : tie.Need-returns
 returns c =
     let start = c .before .before in
-    rw (c .before .match .keys1) (c .close-code .ensures ∙ close-answer (start .args .ask .count) (start .args .ask .running) (start .args .streams) (start .args .claims) (start .args .ask .number))
+    rw (c .before .match .keys1) (c .close-code .ensures ∙ close-answer (start .args .ask .count) (start .args .ask .running) (start .args .streams) (start .args .claims) (start .args .ask .node))
 
 returns-2 : tie.Need-returns-2
 returns-2 c = rw (c .before .match .keys2) (c .handle-update-code .ensures)
