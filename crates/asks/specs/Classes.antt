@@ -5,18 +5,18 @@ use Prim.Native.Nat.{ℕ}
 use lib.Dec.{eqb}
 use Rattle.rules.specs.Codes.{stepDone, unknownKind, wrongNode}
 use Rattle.rules.specs.Range.{within}
-use Rattle.rules.specs.Rules.{Kind, classOf}
-use Rattle.rules.specs.Step.{kindOf, called}
+use Rattle.rules.specs.Rules.{Kind, classOf, join, leave, learns, connect, handleWrite, shutdown, startup}
+use Rattle.rules.specs.Step.{kindOf, numberOf, called}
 use Rattle.asks.specs.declared.Ask.{Ask}
 
 abbrev pub hasNode : Ask → Bool
 hasNode a = within 1 (a .count) (a .node)
 
 abbrev pub rowKind : ℕ → Bool
-rowKind k = eqb k 11 || within 3 8 k
+rowKind k = eqb k (numberOf handleWrite) || within (numberOf learns) (numberOf connect) k
 
 abbrev pub deskKind : ℕ → Bool
-deskKind k = within 1 2 k
+deskKind k = within (numberOf join) (numberOf leave) k
 
 abbrev pub atRow : Ask → Bool
 atRow a = rowKind (a .kind) && hasNode a
@@ -32,6 +32,6 @@ existenceOf (some k) count n = cond (called (classOf k) count n) stepDone wrongN
 abbrev pub existence : Ask → ℕ
 existence a = existenceOf (kindOf (a .kind)) (a .count) (a .node)
 
--- Kinds 12 and 13 alone change it.
+-- Shutdown and Startup alone change it.
 abbrev pub runsAfter : Ask → Bool
-runsAfter a = cond (eqb (a .kind) 13) true (cond (eqb (a .kind) 12) false (a .running))
+runsAfter a = cond (eqb (a .kind) (numberOf startup)) true (cond (eqb (a .kind) (numberOf shutdown)) false (a .running))

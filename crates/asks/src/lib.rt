@@ -1,6 +1,6 @@
 // A step that is asked for: which part of the state it concerns, whether it exists, and whether the switch runs after it.
 ghost use mathlib.Core.Path.{_≡_};
-ghost use Rattle.asks.specs.Classes.{hasNode, rowKind, atRow, atDesk, existence, runsAfter};
+ghost use Rattle.asks.specs.Classes.{rowKind, atRow, atDesk, existence, runsAfter};
 
 // A step that is asked for, with the node count and whether the switch runs.
 pub struct Ask {
@@ -10,25 +10,16 @@ pub struct Ask {
     pub node: u8,
 }
 
-fn has_node(ask: Ask) -> bool
-    ensures { λ r. ⌜ r ≡ hasNode ask ⌝ }
-{
-    if ask.node == 0 {
-        return false;
-    }
-    ask.node <= ask.count
-}
-
 fn is_row_kind(kind: u8) -> bool
     ensures { λ r. ⌜ r ≡ rowKind kind ⌝ }
 {
-    if kind == 11 {
+    if kind == parts::HANDLE_WRITE {
         return true;
     }
-    if kind < 3 {
+    if kind < parts::LEARN {
         return false;
     }
-    kind <= 8
+    kind <= parts::CONNECT
 }
 
 // A node and its stream.
@@ -36,7 +27,7 @@ pub fn at_row(ask: Ask) -> bool
     ensures { λ r. ⌜ r ≡ atRow ask ⌝ }
 {
     if is_row_kind(ask.kind) {
-        return has_node(ask);
+        return parts::is_node(ask.count, ask.node);
     }
     false
 }
@@ -48,10 +39,10 @@ pub fn at_desk(ask: Ask) -> bool
     if ask.kind == 0 {
         return false;
     }
-    if 2 < ask.kind {
+    if parts::LEAVE < ask.kind {
         return false;
     }
-    has_node(ask)
+    parts::is_node(ask.count, ask.node)
 }
 
 // Why there is no such step: the kind is unknown, or it does not call for the node. Done where there is.
@@ -62,11 +53,11 @@ pub fn existence_code(ask: Ask) -> u8
     if kind == 0 {
         return parts::UNKNOWN_KIND;
     }
-    if 13 < kind {
+    if parts::STARTUP < kind {
         return parts::UNKNOWN_KIND;
     }
-    if kind < 12 {
-        if has_node(ask) {
+    if kind < parts::SHUTDOWN {
+        if parts::is_node(ask.count, ask.node) {
             return parts::DONE;
         }
         return parts::WRONG_NODE;
@@ -81,10 +72,10 @@ pub fn existence_code(ask: Ask) -> u8
 pub fn runs_after(ask: Ask) -> bool
     ensures { λ r. ⌜ r ≡ runsAfter ask ⌝ }
 {
-    if ask.kind == 13 {
+    if ask.kind == parts::STARTUP {
         return true;
     }
-    if ask.kind == 12 {
+    if ask.kind == parts::SHUTDOWN {
         return false;
     }
     ask.running

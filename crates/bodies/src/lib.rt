@@ -16,10 +16,10 @@ ghost use Rattle.turns.specs.RowTurns.{rowMoved};
 use asks::Ask;
 use parts::Mastership;
 use parts::Term;
-use state::Body;
-use state::Moved;
-use state::Controller;
 use state::Board;
+use state::Body;
+use state::Controller;
+use state::Moved;
 use turns::Row;
 
 // The body stays as it is, or was changed, and no write was accepted.
@@ -114,7 +114,7 @@ fn at_row(body: Body, writes: u16, kind: u8, node: u8) -> Moved
     let claims = core.claims;
     let code = turns::row_code(ask, writes, controller, stream, claims);
     if code == parts::DONE {
-        if kind == turns::LEARN {
+        if kind == parts::LEARN {
             let next = nodes::learn(controller);
             return plain(parts::DONE, with_controller(body, node, next));
         }

@@ -6,7 +6,7 @@ use Prim.Native.Nat.{ℕ, _≤_}
 use native.Mathlib.Omega.{arith}
 use lib.Dec.{T}
 use lib.ListN.{length, getD}
-use Rattle.rules.specs.Limits.{mostNodes}
+use Rattle.rules.specs.Limits.{mostNodes, mostBackups}
 use Rattle.rules.specs.State as S
 use Rattle.rules.specs.Range.{inRange}
 use Rattle.laws.specs.InRange.{QueueFits, MastershipFits, ServiceFits, masterless, ruled, LearnedFits, unlearned, knows, CoreFits}
@@ -22,14 +22,14 @@ use Rattle.bridge.specs.Held.{events-back, learned-back, says-back, boar
 -- ---- there is a place for every backup
 
 module _ (count : ℕ) (few : count ≤ mostNodes) (m : S.Mastership) where
-  pub event-short : MastershipFits count m → length (m .backups) ≤ 7
+  pub event-short : MastershipFits count m → length (m .backups) ≤ mostBackups
   event-short k = let f = fewer-backups count m k in omega arith
 
-  pub service-short : ServiceFits count m → length (m .backups) ≤ 7
+  pub service-short : ServiceFits count m → length (m .backups) ≤ mostBackups
   service-short (masterless a b c) = rw b (omega arith)
   service-short (ruled k) = event-short k
 
-  pub learned-short : LearnedFits count m → length (m .backups) ≤ 7
+  pub learned-short : LearnedFits count m → length (m .backups) ≤ mostBackups
   learned-short (unlearned e) = rw e (omega arith)
   learned-short (knows k) = event-short k
 

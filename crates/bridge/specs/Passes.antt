@@ -6,7 +6,7 @@ use Prim.Native.Nat.{ℕ, _≤_}
 use native.Mathlib.Omega.{arith}
 use lib.Dec.{T}
 use lib.ListN.{length, getD, take, drop, List·getD-eq-default}
-use Rattle.rules.specs.Limits.{mostNodes, queueLength, historyLength}
+use Rattle.rules.specs.Limits.{mostNodes, mostBackups, queueLength, historyLength}
 use Rattle.rules.specs.State as S
 use Rattle.rules.specs.Range.{all, inRange}
 use Rattle.laws.specs.InRange.{All, CoreFits}
@@ -38,10 +38,10 @@ module _ {A B : Type 0} (blank : B) (rep : A → B) (tidy isBlank : B → Bool) 
 
 -- ---- elements
 
-mastership-passes : (m : S.Mastership) → length (m .backups) ≤ 7 → T (tidyMastership (packMastership m))
+mastership-passes : (m : S.Mastership) → length (m .backups) ≤ mostBackups → T (tidyMastership (packMastership m))
 unfolding tidyMastership
-mastership-passes m h = let l = m .backups in (is-le (length l) 7 & as-is (all isZero (drop (length l) (padded 0 asIs 7 l)))) .from
-    (h, from-all isZero (drop (length l) (padded 0 asIs 7 l)) (dropped-padded 0 asIs (λ x. T (isZero x)) 7 l tt))
+mastership-passes m h = let l = m .backups in (is-le (length l) mostBackups & as-is (all isZero (drop (length l) (padded 0 asIs mostBackups l)))) .from
+    (h, from-all isZero (drop (length l) (padded 0 asIs mostBackups l)) (dropped-padded 0 asIs (λ x. T (isZero x)) mostBackups l tt))
 
 message-passes : (m : S.Message) → T (not (noMessage (packMessage m)))
 unfolding noMessage

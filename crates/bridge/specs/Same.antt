@@ -7,7 +7,7 @@ use native.Mathlib.Omega.{arith}
 use lib.Dec.{T}
 use lib.ListN.{length, take, drop, length-map}
 use lib.Seq.{length-take-le}
-use Rattle.rules.specs.Limits.{mostNodes, queueLength, historyLength}
+use Rattle.rules.specs.Limits.{mostNodes, mostBackups, queueLength, historyLength}
 use Rattle.rules.specs.Range.{all, inRange}
 use Rattle.rules.specs.State as S
 use Rattle.laws.specs.InRange.{All}
@@ -82,11 +82,11 @@ all-zero l t = is-all (λ x. is-eq x 0) l .to t
 
 pub mastership-same : (m : Mastership) → SizedMastership m → T (tidyMastership m) → packMastership (holdMastership m) ≡ m
 unfolding tidyMastership
-mastership-same m h t = let k = (is-le (m .len) 7 & as-is (all isZero (drop (m .len) (m .backups)))) .to t in λ i. record {
+mastership-same m h t = let k = (is-le (m .len) mostBackups & as-is (all isZero (drop (m .len) (m .backups)))) .to t in λ i. record {
   term = m .term;
   master = m .master;
-  backups = (ap (padded 0 asIs 7) (sym (as-is-all (take (m .len) (m .backups)))) ∙ padded-same 0 asIs asIs 7 (m .len) (m .backups) h (all-refl (take (m .len) (m .backups))) (all-zero (drop (m .len) (m .backups)) (k .1))) i;
-  len = length-take-le (m .len) (m .backups) (let z : m .len ≤ 7 = k .0 in omega arith) i;
+  backups = (ap (padded 0 asIs mostBackups) (sym (as-is-all (take (m .len) (m .backups)))) ∙ padded-same 0 asIs asIs mostBackups (m .len) (m .backups) h (all-refl (take (m .len) (m .backups))) (all-zero (drop (m .len) (m .backups)) (k .1))) i;
+  len = length-take-le (m .len) (m .backups) (let z : m .len ≤ mostBackups = k .0 in omega arith) i;
 }
 
 pub mastership-none : (m : Mastership) → SizedMastership m → T (blankMastership m) → m ≡ noMastership
@@ -94,7 +94,7 @@ unfolding blankMastership
 mastership-none m h t = let k = (is-eq (m .term .0) 0 & is-eq (m .master) 0 & as-is (all isZero (m .backups)) & is-eq (m .len) 0) .to t in λ i. record {
   term = record { 0 = k .0 .0 .0 i };
   master = k .0 .0 .1 i;
-  backups = sym (padded-same 0 asIs asIs 7 0 (m .backups) h tt (all-zero (m .backups) (k .0 .1))) i;
+  backups = sym (padded-same 0 asIs asIs mostBackups 0 (m .backups) h tt (all-zero (m .backups) (k .0 .1))) i;
   len = k .1 i;
 }
 

@@ -1,7 +1,7 @@
 -- Every array of a state has its length, as its type says. Assumes nothing.
 use mathlib.Core.Path.{_≡_}
 use lib.ListN.{length}
-use Rattle.rules.specs.Limits.{mostNodes, queueLength, historyLength}
+use Rattle.rules.specs.Limits.{mostNodes, mostBackups, queueLength, historyLength}
 use Rattle.laws.specs.InRange.{All}
 use Rattle.parts.specs.declared.Mastership.{Mastership}
 use Rattle.state.specs.declared.Controller.{Controller}
@@ -9,7 +9,7 @@ use Rattle.state.specs.declared.Stream.{Stream}
 use Rattle.state.specs.declared.State.{State}
 
 abbrev pub SizedMastership : Mastership → Type 0
-SizedMastership m = length (m .backups) ≡ 7
+SizedMastership m = length (m .backups) ≡ mostBackups
 
 pub record SizedController (r : Controller) : Type 0 where
   pub events : length (r .events .items) ≡ queueLength

@@ -2,6 +2,7 @@
 use mathlib.Core.List.{List, []}
 use Prim.Native.Nat.{ℕ}
 use lib.ListN.{length, take}
+use Rattle.rules.specs.Limits.{mostBackups}
 use Rattle.rules.specs.State as S
 use Rattle.seqs.specs.Padded.{padded}
 use Rattle.seqs.specs.Queue.{Queue, packed, held}
@@ -25,7 +26,7 @@ abbrev pub asIs : ℕ → ℕ
 asIs x = x
 
 abbrev pub packMastership : S.Mastership → Mastership
-packMastership m = record { term = record { 0 = m .term }; master = m .master; backups = padded 0 asIs 7 (m .backups); len = length (m .backups) }
+packMastership m = record { term = record { 0 = m .term }; master = m .master; backups = padded 0 asIs mostBackups (m .backups); len = length (m .backups) }
 
 -- at an unused place
 abbrev pub noMastership : Mastership

@@ -4,7 +4,7 @@ use mathlib.Core.List.{List}
 use Prim.Native.Nat.{ℕ, _+_}
 use lib.Dec.{leb, ltb, eqb}
 use lib.ListN.{getD}
-use Rattle.rules.specs.Limits.{topTerm, queueLength}
+use Rattle.rules.specs.Limits.{mostBackups, topTerm, queueLength}
 use Rattle.rules.specs.State as S
 use Rattle.rules.specs.Ids.{placeOf}
 use Rattle.rules.specs.Range.{each, within, requestFits, answerFits}
@@ -38,7 +38,7 @@ backupPlace count m i = backupAt count m i (getD (m .backups) i 0)
 
 -- Among no nodes: there are no backups.
 unfoldable pub backupsTest : ℕ → Mastership → Bool
-backupsTest count m = leb (m .len) 7 && each 7 (backupPlace count m)
+backupsTest count m = leb (m .len) mostBackups && each mostBackups (backupPlace count m)
 
 unfoldable pub blankTest : Mastership → Bool
 blankTest m = isZero (m .term .0) && isZero (m .master) && backupsTest 0 m

@@ -10,7 +10,7 @@ use lib.Dec.{T, leb, ltb, eqb}
 use lib.ListN.{length, getD, take, drop}
 use lib.Seq.{length-take-le, getD-take}
 use borrow.Author.Tests.{lt-ltb, le-ltb, eq-eqb, ne-eqb}
-use Rattle.rules.specs.Limits.{topTerm}
+use Rattle.rules.specs.Limits.{mostBackups, topTerm}
 use Rattle.rules.specs.Queues.{empty, before}
 use Rattle.rules.specs.Ids.{placeOf}
 use Rattle.rules.specs.Range.{within, backupFits, mastershipFits, serviceFits, learnedFits}
@@ -40,7 +40,7 @@ is-own-place m b i = is-map (λ e. there e (ℕ-discrete (m .master) b)) back (i
     back h = rw (ne-eqb (m .master) b (λ q. h .0 (sym q))) (let z = h .1 in omega arith)
 
 pub record Backups (n : ℕ) (m : Mastership) : Type 0 where
-  pub few : m .len ≤ 7
+  pub few : m .len ≤ mostBackups
   pub behind : All (λ x. x ≡ 0) (drop (m .len) (m .backups))
   pub fit : All (λ b. Within 1 n b × (b ≢ m .master)) (take (m .len) (m .backups))
   pub apart : Distinct (take (m .len) (m .backups))
@@ -61,10 +61,10 @@ module _ (n : ℕ) (m : Mastership) (sized : SizedMastership m) where
       nonzero : (x : ℕ) → Within 1 n x → x ≢ 0
       nonzero x w e = let z : 1 ≤ x = w .lower in omega arith
 
-  backups-there : (m .len ≤ 7) × ((i : ℕ) → i < 7 → T (backupPlace n m i)) → Backups n m
+  backups-there : (m .len ≤ mostBackups) × ((i : ℕ) → i < mostBackups → T (backupPlace n m i)) → Backups n m
   unfolding backupAt
   backups-there t =
-      let used : (i : ℕ) → i < m .len → i < 7 → Within 1 n (at i) × ((at i ≢ m .master) × (before (at i) inUse ≡ i)) =
+      let used : (i : ℕ) → i < m .len → i < mostBackups → Within 1 n (at i) × ((at i ≢ m .master) × (before (at i) inUse ≡ i)) =
       λ i j k. (is-within 1 n (at i) & is-own-place m (at i) i) .to (rw (lt-ltb i (m .len) j) at (t .1 i k)) in
       let fit : All Fit inUse = all-taken Fit (m .len) (m .backups) 0 (λ i j k. let u = used i j (omega arith) in (u .0, u .1 .0)) in
       record {
@@ -72,18 +72,18 @@ module _ (n : ℕ) (m : Mastership) (sized : SizedMastership m) where
         behind = all-dropped (λ x. x ≡ 0) (m .len) (m .backups) 0 (λ i j k. is-eq (at i) 0 .to (rw (le-ltb i (m .len) j) at (t .1 i (omega arith))));
         fit = fit;
         apart = distinct-of inUse (above inUse fit) (first-ids inUse (λ i k z.
-            let j : i < m .len = let e = length-take-le (m .len) (m .backups) (let f : m .len ≤ 7 = t .0 in omega arith) in omega arith in
-            rw (getD-take (m .len) (m .backups) i 0 j) (used i j (let f : m .len ≤ 7 = t .0 in omega arith) .1 .1)));
+            let j : i < m .len = let e = length-take-le (m .len) (m .backups) (let f : m .len ≤ mostBackups = t .0 in omega arith) in omega arith in
+            rw (getD-take (m .len) (m .backups) i 0 j) (used i j (let f : m .len ≤ mostBackups = t .0 in omega arith) .1 .1)));
       }
 
-  backups-back : Backups n m → (m .len ≤ 7) × ((i : ℕ) → i < 7 → T (backupPlace n m i))
+  backups-back : Backups n m → (m .len ≤ mostBackups) × ((i : ℕ) → i < mostBackups → T (backupPlace n m i))
   unfolding backupAt
   backups-back h = (h .few, λ i k. place i k (decLt i (m .len)))
     where
-      place : (i : ℕ) → i < 7 → Dec (i < m .len) → T (cond (ltb i (m .len)) (within 1 n (at i) && eqb (placeOf (at i) (holdMastership m)) (i + 1)) (isZero (at i)))
+      place : (i : ℕ) → i < mostBackups → Dec (i < m .len) → T (cond (ltb i (m .len)) (within 1 n (at i) && eqb (placeOf (at i) (holdMastership m)) (i + 1)) (isZero (at i)))
       place i k (yes j) =
           let f = taken-at Fit (m .len) i (m .backups) 0 (h .fit) j (omega arith) in
-          let e = length-take-le (m .len) (m .backups) (let z : m .len ≤ 7 = h .few in omega arith) in
+          let e = length-take-le (m .len) (m .backups) (let z : m .len ≤ mostBackups = h .few in omega arith) in
           let same : getD inUse i 0 ≡ at i = getD-take (m .len) (m .backups) i 0 j in
           let own = ids-first inUse (ids-of inUse (h .apart)) i (omega arith) (λ q. let z : 1 ≤ at i = f .0 .lower in omega arith) in
           rw (lt-ltb i (m .len) j) ((is-within 1 n (at i) & is-own-place m (at i) i) .from (f .0, (f .1, rw same at own)))
@@ -91,13 +91,13 @@ module _ (n : ℕ) (m : Mastership) (sized : SizedMastership m) where
 
   pub is-backups : Is (backupsTest n m) (Backups n m)
   unfolding backupsTest
-  is-backups = is-map backups-there backups-back (is-le (m .len) 7 & is-each (λ i. as-is (backupPlace n m i)) 7)
+  is-backups = is-map backups-there backups-back (is-le (m .len) mostBackups & is-each (λ i. as-is (backupPlace n m i)) mostBackups)
 
   -- ---- a mastership with a master
 
-  is-tidy : Is (tidyMastership m) ((m .len ≤ 7) × All (λ x. x ≡ 0) (drop (m .len) (m .backups)))
+  is-tidy : Is (tidyMastership m) ((m .len ≤ mostBackups) × All (λ x. x ≡ 0) (drop (m .len) (m .backups)))
   unfolding tidyMastership
-  is-tidy = is-le (m .len) 7 & is-all (λ x. is-eq x 0) (drop (m .len) (m .backups))
+  is-tidy = is-le (m .len) mostBackups & is-all (λ x. is-eq x 0) (drop (m .len) (m .backups))
 
   is-mastership : Is (mastershipFits n (holdMastership m)) (((Within 1 topTerm (m .term .0) × Within 1 n (m .master)) × All Fit inUse) × Distinct inUse)
   unfolding mastershipFits backupFits
@@ -118,9 +118,9 @@ module _ (m : Mastership) (sized : SizedMastership m) where
   None = (m .len ≡ 0) × All (λ x. x ≡ 0) (m .backups)
 
   -- Nothing is in use.
-  none-of : (m .len ≤ 7) × All (λ x. x ≡ 0) (drop (m .len) (m .backups)) → take (m .len) (m .backups) ≡ [] → None
+  none-of : (m .len ≤ mostBackups) × All (λ x. x ≡ 0) (drop (m .len) (m .backups)) → take (m .len) (m .backups) ≡ [] → None
   none-of t e =
-      let f : m .len ≤ 7 = t .0 in
+      let f : m .len ≤ mostBackups = t .0 in
       let l = length-take-le (m .len) (m .backups) (omega arith) in
       let z : m .len ≡ 0 = sym l ∙ ap length e in
       (z, subst (λ (k : ℕ). All (λ x. x ≡ 0) (drop k (m .backups))) z (t .1))
@@ -128,7 +128,7 @@ module _ (m : Mastership) (sized : SizedMastership m) where
   none-taken : None → take (m .len) (m .backups) ≡ []
   none-taken h = ap (λ (k : ℕ). take k (m .backups)) (h .0)
 
-  none-tidy : None → (m .len ≤ 7) × All (λ x. x ≡ 0) (drop (m .len) (m .backups))
+  none-tidy : None → (m .len ≤ mostBackups) × All (λ x. x ≡ 0) (drop (m .len) (m .backups))
   none-tidy h = ((let z : m .len ≡ 0 = h .0 in omega arith), subst (λ (k : ℕ). All (λ x. x ≡ 0) (drop k (m .backups))) (sym (h .0)) (h .1))
 
   nobody : (l : List ℕ) → All (λ b. Within 1 0 b × (b ≢ m .master)) l → l ≡ []

@@ -35,7 +35,7 @@ pub fn in_range(s: State) -> bool
 {
     let core = s.core;
     let history = s.history;
-    if queues::masterships::is_node(parts::MOST_NODES, s.count) {
+    if parts::is_node(parts::MOST_NODES, s.count) {
         if core_fits(s.count, s.running, core) {
             return rows::history_fits(s.count, history);
         }

@@ -3,7 +3,6 @@ ghost use mathlib.Core.Path.{_≡_};
 ghost use mathlib.Core.Bool.{cond, false};
 ghost use Prim.Native.Nat.{_≤_};
 ghost use Rattle.rules.specs.Limits.{mostNodes};
-ghost use Rattle.rules.specs.Queues.{before};
 ghost use Rattle.seqs.specs.Columns.{column};
 ghost use Rattle.state.specs.Hold.{idAt};
 ghost use Rattle.state.specs.Tidy.{blankWrite};
@@ -11,9 +10,9 @@ ghost use Rattle.ranges.specs.Tests.{controllerTest, blankControllerTest
 use parts::ElectionId;
 use parts::Term;
 use state::Claims;
+use state::Controller;
 use state::Core;
 use state::History;
-use state::Controller;
 use state::Stream;
 use state::Write;
 
@@ -146,23 +145,6 @@ pub fn streams_fit(count: u8, running: bool, core: Core) -> bool
     true
 }
 
-// The first of the places in use that holds the id; `count` where there is none.
-fn id_place(count: u8, claims: Claims, id: ElectionId) -> u8
-    requires { ⌜ count ≤ mostNodes ⌝ }
-    ensures { λ r. ⌜ r ≡ before (id .0) (column idAt count (claims .ids)) ⌝ }
-{
-    let mut i: u8 = 0;
-    while i < count {
-        let at = i as usize;
-        let held = claims.ids[at];
-        if held.0 == id.0 {
-            return i;
-        }
-        i += 1;
-    }
-    count
-}
-
 // Ids above 0 are distinct: each stands at its first place.
 fn id_fits(count: u8, claims: Claims, i: u8, id: ElectionId) -> bool
     requires { ⌜ count ≤ mostNodes ⌝ }
@@ -171,7 +153,8 @@ fn id_fits(count: u8, claims: Claims, i: u8, id: ElectionId) -> bool
     if id.0 == 0 {
         return true;
     }
-    id_place(count, claims, id) == i
+    let ids = claims.ids;
+    state::id_place(count, id, ids) == i
 }
 
 pub fn ids_fit(count: u8, claims: Claims) -> bool
@@ -195,7 +178,7 @@ fn write_fits(count: u8, e: Write) -> bool
     ensures { λ r. ⌜ r ≡ writeTest count e ⌝ }
 {
     let term = e.term;
-    if queues::masterships::is_node(count, e.node) {
+    if parts::is_node(count, e.node) {
         return queues::masterships::is_term(term);
     }
     false

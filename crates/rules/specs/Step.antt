@@ -25,6 +25,22 @@ kinds = none ∷ some join ∷ some leave ∷ some learns ∷ some sendUpdate �
 abbrev pub kindOf : ℕ → Option Kind
 kindOf k = getD kinds k none
 
+-- The number of a kind: the way back, by `of-number` in laws/specs/Kinds.
+abbrev pub numberOf : Kind → ℕ
+numberOf join = 1
+numberOf leave = 2
+numberOf learns = 3
+numberOf sendUpdate = 4
+numberOf receiveUpdate = 5
+numberOf sendWrite = 6
+numberOf receiveWrite = 7
+numberOf connect = 8
+numberOf close = 9
+numberOf handleUpdate = 10
+numberOf handleWrite = 11
+numberOf shutdown = 12
+numberOf startup = 13
+
 -- The node that a class calls for: one of the N, or 0 for 12 and 13.
 abbrev pub called : Class → ℕ → ℕ → Bool
 called service count n = within 1 count n

@@ -106,7 +106,7 @@ fn run_records(list: &[u8], trailer: Trailer, out: &mut [u8]) -> u16
         if asks::at_row(ask) {
             let at = (ask.node - 1) as usize;
             let controller = table.controllers[at];
-            if ask.kind == turns::LEARN {
+            if ask.kind == parts::LEARN {
                 table.controllers[at] = nodes::learn(controller);
                 continue;
             }

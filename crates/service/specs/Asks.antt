@@ -5,7 +5,7 @@ use mathlib.Core.Bool.{true, cond}
 use Prim.Native.Nat.{ℕ, _+_, _≤_, _<_}
 use lib.Dec.{ltb}
 use lib.ListN.{length}
-use Rattle.rules.specs.Limits.{topTerm}
+use Rattle.rules.specs.Limits.{mostBackups, topTerm}
 use Rattle.rules.specs.Queues.{first, rest, has, remove}
 use Rattle.rules.specs.Ids.{named}
 use Rattle.rules.specs.State as S
@@ -19,7 +19,7 @@ use Rattle.state.specs.declared.Controller.{Controller}
 pub record Joins (m : Mastership) : Type 0 where
   pub ordered : OrderedMastership m
   pub term : m .term .0 ≤ topTerm
-  pub spare : m .master ≢ 0 → length (holdMastership m .backups) < 7
+  pub spare : m .master ≢ 0 → length (holdMastership m .backups) < mostBackups
 
 -- The mastership names the node.
 pub record Leaving (m : Mastership) (n : ℕ) : Type 0 where

@@ -8,6 +8,7 @@ use native.Mathlib.Omega.{arith}
 use lib.Dec.{ltb}
 use lib.ListN.{length, getD, set, drop, take, length-append}
 use borrow.Author.Tests.{eq-eqb, ne-eqb, lt-ltb, le-ltb}
+use Rattle.rules.specs.Limits.{mostBackups}
 use Rattle.rules.specs.State as S
 use Rattle.rules.specs.Queues.{push, first, rest, empty, has}
 use Rattle.rules.specs.Ids.{named}
@@ -22,13 +23,13 @@ module _ (m : Mastership) (o : OrderedMastership m) where
   pub backups-len : m .len ≡ length (holdMastership m .backups)
   backups-len = ap (λ (x : Mastership). x .len) (sym (o .same))
 
-  pub joined-backup : (n : ℕ) → m .master ≢ 0 → length (holdMastership m .backups) < 7
+  pub joined-backup : (n : ℕ) → m .master ≢ 0 → length (holdMastership m .backups) < mostBackups
       → record { term = m .term; master = m .master; backups = set (m .backups) (m .len) n; len = m .len + 1 } ≡ packMastership (joined n (holdMastership m))
   unfolding joined vacant push
   joined-backup n h k = simp (ne-eqb (m .master) 0 h) λ i. record {
     term = m .term;
     master = m .master;
-    backups = (ap (λ (x : Mastership). set (x .backups) (x .len) n) (sym (o .same)) ∙ padded-push 0 asIs 7 (holdMastership m .backups) n k) i;
+    backups = (ap (λ (x : Mastership). set (x .backups) (x .len) n) (sym (o .same)) ∙ padded-push 0 asIs mostBackups (holdMastership m .backups) n k) i;
     len = (ap (λ (x : ℕ). x + 1) backups-len ∙ sym (length-append (holdMastership m .backups) (n ∷ []))) i;
   }
 
@@ -38,10 +39,10 @@ module _ (m : Mastership) (o : OrderedMastership m) where
   unfolding first rest
   handed-over h = go (holdMastership m .backups) refl (o .short) (let e = backups-len in omega arith)
     where
-      front : (l : List ℕ) → holdMastership m .backups ≡ l → m .backups ≡ padded 0 asIs 7 l
-      front l e = ap (λ (x : Mastership). x .backups) (sym (o .same)) ∙ ap (padded 0 asIs 7) e
+      front : (l : List ℕ) → holdMastership m .backups ≡ l → m .backups ≡ padded 0 asIs mostBackups l
+      front l e = ap (λ (x : Mastership). x .backups) (sym (o .same)) ∙ ap (padded 0 asIs mostBackups) e
 
-      go : (l : List ℕ) → holdMastership m .backups ≡ l → length (holdMastership m .backups) ≤ 7 → 1 ≤ length (holdMastership m .backups)
+      go : (l : List ℕ) → holdMastership m .backups ≡ l → length (holdMastership m .backups) ≤ mostBackups → 1 ≤ length (holdMastership m .backups)
           → record { term = record { 0 = m .term .0 + 1 }; master = getD (m .backups) 0 0; backups = drop 1 (m .backups) ++ (0 ∷ []); len = m .len - 1 } ≡ packMastership (handedOver (holdMastership m))
       go [] e s k = let z = ap length e in absurd (omega arith)
       go (x ∷ l) e s k =
@@ -51,7 +52,7 @@ module _ (m : Mastership) (o : OrderedMastership m) where
           λ i. record {
             term = record { 0 = m .term .0 + 1 };
             master = (ap (λ (t : List ℕ). getD t 0 0) f ∙ ap (first 0) (sym e)) i;
-            backups = (ap (λ (t : List ℕ). drop 1 t ++ (0 ∷ [])) f ∙ padded-pop 0 asIs 6 x l (omega arith) ∙ ap (λ (t : List ℕ). padded 0 asIs 7 (rest t)) (sym e)) i;
+            backups = (ap (λ (t : List ℕ). drop 1 t ++ (0 ∷ [])) f ∙ padded-pop 0 asIs 6 x l (omega arith) ∙ ap (λ (t : List ℕ). padded 0 asIs mostBackups (rest t)) (sym e)) i;
             len = ((let p : m .len - 1 ≡ length l = omega arith in p) ∙ ap (λ (t : List ℕ). length (rest t)) (sym e)) i;
           }
 
@@ -63,12 +64,12 @@ module _ (m : Mastership) (o : OrderedMastership m) where
       go [] f = λ i. record {
         term = m .term;
         master = 0;
-        backups = (ap (λ (x : Mastership). x .backups) (sym (o .same)) ∙ ap (padded 0 asIs 7) f) i;
+        backups = (ap (λ (x : Mastership). x .backups) (sym (o .same)) ∙ ap (padded 0 asIs mostBackups) f) i;
         len = e i;
       }
 
 -- the length is 0 exactly if none are held
-pub some-taken : (n : ℕ) (l : List ℕ) → length l ≡ 7 → ltb 0 n ≡ not (empty (take n l))
+pub some-taken : (n : ℕ) (l : List ℕ) → length l ≡ mostBackups → ltb 0 n ≡ not (empty (take n l))
 unfolding empty
 some-taken n [] e = absurd (omega arith)
 some-taken zero (x ∷ l) e = le-ltb 0 0 (omega arith)

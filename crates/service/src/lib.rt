@@ -100,7 +100,7 @@ pub fn joined(service: Mastership, node: u8) -> Mastership
         return Mastership {
             term: Term(service.term.0 + 1),
             master: node,
-            backups: [0u8; 7],
+            backups: [0u8; parts::MOST_BACKUPS as usize],
             len: 0,
         };
     }
@@ -157,7 +157,7 @@ fn without(m: Mastership, node: u8) -> Mastership
     let place = m.place_of(node);
     let gone = place as usize - 1;
     let kept = m.len as usize - 1;
-    let mut backups = [0u8; 7];
+    let mut backups = [0u8; parts::MOST_BACKUPS as usize];
     let mut i: usize = 0;
     while i < kept {
         let from = skip(i, gone);

@@ -4,7 +4,7 @@ use mathlib.Core.List.{List}
 use Prim.Native.Nat.{ℕ}
 use lib.ListN.{take, drop}
 use lib.Dec.{leb, eqb}
-use Rattle.rules.specs.Limits.{queueLength, historyLength}
+use Rattle.rules.specs.Limits.{mostBackups, queueLength, historyLength}
 use Rattle.rules.specs.Range.{all, inRange}
 use Rattle.parts.specs.declared.Mastership.{Mastership}
 use Rattle.parts.specs.declared.Message.{Message}
@@ -51,7 +51,7 @@ blankResponse r = noMessage (r .message) && noStatus (r .status) && isZero (r .i
 -- ---- what is in use is tidy, and the places behind it are blank
 
 unfoldable pub tidyMastership : Mastership → Bool
-tidyMastership m = leb (m .len) 7 && all isZero (drop (m .len) (m .backups))
+tidyMastership m = leb (m .len) mostBackups && all isZero (drop (m .len) (m .backups))
 
 unfoldable pub tidyRequest : Request → Bool
 tidyRequest r = not (noMessage (r .message))

@@ -1,8 +1,11 @@
 // The state as the code holds it: rows in arrays of eight, of which the first `count` are in use.
 ghost use mathlib.Core.Path.{_≡_};
-ghost use Prim.Native.Nat.{ℕ};
+ghost use Prim.Native.Nat.{ℕ, _≤_};
+ghost use Rattle.rules.specs.Limits.{mostNodes};
+ghost use Rattle.rules.specs.Queues.{before};
 ghost use Rattle.rules.specs.Step.{fresh};
-ghost use Rattle.state.specs.Hold.{packCore};
+ghost use Rattle.seqs.specs.Columns.{column};
+ghost use Rattle.state.specs.Hold.{idAt, packCore};
 use parts::ElectionId;
 use parts::EventQueue;
 use parts::Mastership;
@@ -87,6 +90,23 @@ pub struct Moved {
     pub body: Body,
     pub accepted: bool,
     pub term: Term,
+}
+
+// How many nodes stand before the first that holds the id; all of them where none does.
+pub fn id_place(count: u8, id: ElectionId, ids: [ElectionId; 8]) -> u8
+    requires { ⌜ count ≤ mostNodes ⌝ }
+    ensures { λ r. ⌜ r ≡ before (id .0) (column idAt count ids) ⌝ }
+{
+    let mut i: u8 = 0;
+    while i < count {
+        let at = i as usize;
+        let held = ids[at];
+        if held.0 == id.0 {
+            return i;
+        }
+        i += 1;
+    }
+    count
 }
 
 // What a role owns before any step: nothing in any row, however many nodes there are.

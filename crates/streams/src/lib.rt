@@ -3,7 +3,7 @@ ghost use mathlib.Core.Path.{_≡_};
 ghost use mathlib.Core.List.{List};
 ghost use Prim.Native.Nat.{ℕ, _≤_};
 ghost use Rattle.rules.specs.Limits.{mostNodes};
-ghost use Rattle.rules.specs.Queues.{before, first};
+ghost use Rattle.rules.specs.Queues.{first};
 ghost use Rattle.rules.specs.Election.{largest, masterOf, taken, statusFor, news, roomOpen};
 ghost use Rattle.rules.specs.Open.{wordOf, openNumber};
 ghost use Rattle.rules.specs.Rules.{changes, noRequest};
@@ -39,23 +39,6 @@ fn largest_id(count: u8, ids: [ElectionId; 8]) -> ElectionId
     ElectionId(top)
 }
 
-// How many nodes stand before the first that holds the id; all of them where none does.
-fn before_id(count: u8, id: ElectionId, ids: [ElectionId; 8]) -> u8
-    requires { ⌜ count ≤ mostNodes ⌝ }
-    ensures { λ r. ⌜ r ≡ before (id .0) (column idAt count ids) ⌝ }
-{
-    let mut i: u8 = 0;
-    while i < count {
-        let at = i as usize;
-        let other = ids[at];
-        if other.0 == id.0 {
-            return i;
-        }
-        i += 1;
-    }
-    count
-}
-
 // The switch's master: the node with the largest id above 0, or 0 for none.
 pub fn master_of(count: u8, ids: [ElectionId; 8]) -> u8
     requires { ⌜ count ≤ mostNodes ⌝ }
@@ -65,7 +48,7 @@ pub fn master_of(count: u8, ids: [ElectionId; 8]) -> u8
     if top.0 == 0 {
         return 0;
     }
-    before_id(count, top, ids) + 1
+    state::id_place(count, top, ids) + 1
 }
 
 // Whether the switch's master is another one after the ids have changed.
@@ -86,7 +69,7 @@ pub fn is_taken(count: u8, node: u8, id: ElectionId, ids: [ElectionId; 8]) -> bo
     let at = (node - 1) as usize;
     let mut others = ids;
     others[at] = ElectionId(0);
-    before_id(count, id, others) < count
+    state::id_place(count, id, others) < count
 }
 
 // The open streams as a word: bit n - 1 is set for an open stream of node n.

@@ -18,9 +18,9 @@ use parts::Message;
 use parts::RequestQueue;
 use parts::ResponseQueue;
 use parts::Term;
+use state::Board;
 use state::Claims;
 use state::Stream;
-use state::Board;
 
 // 8 Connect: its answer.
 pub fn connect_code(running: bool, stream: Stream) -> u8

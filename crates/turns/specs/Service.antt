@@ -7,7 +7,7 @@ use native.Mathlib.Omega.{arith}
 use lib.ListN.{length, length-append}
 use borrow.Author.Tests.{ne-eqb}
 use Rattle.rules.specs.Codes.{stepDone}
-use Rattle.rules.specs.Limits.{topTerm}
+use Rattle.rules.specs.Limits.{mostBackups, topTerm}
 use Rattle.rules.specs.State as S
 use Rattle.rules.specs.Queues.{push, roomAll}
 use Rattle.rules.specs.Ids.{named}
@@ -81,7 +81,7 @@ module _ (b : Body) (n : ℕ) (a : At b n) where
       spare = λ h.
           let l = holdMastership (b .core .service) .backups in
           let s = service-short (b .count) (a .few) (joined n (holdMastership (b .core .service))) joined-service in
-          let k : length (push n l) ≤ 7 = simp (ne-eqb (b .core .service .master) 0 h) at s in
+          let k : length (push n l) ≤ mostBackups = simp (ne-eqb (b .core .service .master) 0 h) at s in
           let q = length-append l (n ∷ []) in
           omega arith;
     }

@@ -13,13 +13,10 @@ ghost use Rattle.turns.specs.Asks.{RowAsks, BoardAsks, RowGoes, DeskGoes
 use asks::Ask;
 use parts::Mastership;
 use parts::Term;
+use state::Board;
 use state::Claims;
 use state::Controller;
 use state::Stream;
-use state::Board;
-
-// The kind that concerns a node alone.
-pub const LEARN: u8 = 3;
 
 // The write of a step, where it accepted one.
 pub struct Entry {
@@ -54,18 +51,18 @@ pub fn row_code(ask: Ask, writes: u16, controller: Controller, stream: Stream, c
 {
     let kind = ask.kind;
     match kind {
-        3 => allowed_code(nodes::may_learn(controller)),
-        4 => nodes::send_code(
+        parts::LEARN => allowed_code(nodes::may_learn(controller)),
+        parts::SEND_UPDATE => nodes::send_code(
             nodes::may_send_update(ask.count, ask.node, controller, stream),
             stream,
         ),
-        5 => allowed_code(nodes::may_receive_update(stream)),
-        6 => nodes::send_code(
+        parts::RECEIVE_UPDATE => allowed_code(nodes::may_receive_update(stream)),
+        parts::SEND_WRITE => nodes::send_code(
             nodes::may_send_write(ask.count, ask.node, controller, stream),
             stream,
         ),
-        7 => allowed_code(nodes::may_receive_write(stream)),
-        8 => switch::connect_code(ask.running, stream),
+        parts::RECEIVE_WRITE => allowed_code(nodes::may_receive_write(stream)),
+        parts::CONNECT => switch::connect_code(ask.running, stream),
         _ => writing::handle_write_code(ask.count, ask.node, ask.running, stream, claims, writes),
     }
 }
@@ -75,7 +72,7 @@ pub fn desk_code(ask: Ask, service: Mastership, controllers: [Controller; 8]) ->
     requires { ⌜ OrderedControllers (ask .count) controllers ⌝ }
     ensures { λ r. ⌜ r ≡ deskAnswer ask service controllers ⌝ }
 {
-    if ask.kind == 1 {
+    if ask.kind == parts::JOIN {
         return service::join_code(ask.count, ask.node, service, controllers);
     }
     service::leave_code(ask.count, ask.node, service, controllers)
@@ -87,9 +84,15 @@ fn switch_code(ask: Ask, streams: [Stream; 8], claims: Claims) -> u8
 {
     let kind = ask.kind;
     match kind {
-        9 => switch::close_code(ask.count, ask.node, streams, claims),
-        10 => switch::handle_update_code(ask.count, ask.node, ask.running, streams, claims),
-        12 => allowed_code(ask.running),
+        parts::CLOSE => switch::close_code(ask.count, ask.node, streams, claims),
+        parts::HANDLE_UPDATE => switch::handle_update_code(
+            ask.count,
+            ask.node,
+            ask.running,
+            streams,
+            claims,
+        ),
+        parts::SHUTDOWN => allowed_code(ask.running),
         _ => allowed_code(!ask.running),
     }
 }
@@ -166,21 +169,21 @@ pub fn row_after(ask: Ask, controller: Controller, stream: Stream, claims: Claim
 {
     let kind = ask.kind;
     match kind {
-        4 => quiet(
+        parts::SEND_UPDATE => quiet(
             ask,
             controller,
             claims,
             nodes::send_update(ask.count, ask.node, controller, stream),
         ),
-        5 => flagged(ask, controller, stream, claims),
-        6 => quiet(
+        parts::RECEIVE_UPDATE => flagged(ask, controller, stream, claims),
+        parts::SEND_WRITE => quiet(
             ask,
             controller,
             claims,
             nodes::send_write(ask.count, ask.node, controller, stream),
         ),
-        7 => quiet(ask, controller, claims, nodes::receive(stream)),
-        8 => quiet(ask, controller, claims, switch::connect(stream)),
+        parts::RECEIVE_WRITE => quiet(ask, controller, claims, nodes::receive(stream)),
+        parts::CONNECT => quiet(ask, controller, claims, switch::connect(stream)),
         _ => written(ask, controller, stream, claims),
     }
 }
@@ -190,7 +193,7 @@ pub fn service_after(ask: Ask, service: Mastership) -> Mastership
     requires { ⌜ DeskGoes ask service ⌝ }
     ensures { λ r. ⌜ r ≡ serviceAfter ask service ⌝ }
 {
-    if ask.kind == 1 {
+    if ask.kind == parts::JOIN {
         return service::joined(service, ask.node);
     }
     service::left(service, ask.node)
@@ -200,7 +203,7 @@ pub fn service_after(ask: Ask, service: Mastership) -> Mastership
 pub fn posts(ask: Ask, service: Mastership) -> bool
     ensures { λ r. ⌜ r ≡ posting ask service ⌝ }
 {
-    if ask.kind == 1 {
+    if ask.kind == parts::JOIN {
         return true;
     }
     service::hands_over(service, ask.node)
@@ -213,9 +216,9 @@ pub fn board_after(ask: Ask, streams: [Stream; 8], claims: Claims) -> Board
 {
     let kind = ask.kind;
     match kind {
-        9 => switch::close(ask.count, ask.node, streams, claims),
-        10 => switch::handle_update(ask.count, ask.node, streams, claims),
-        12 => switch::shutdown(ask.count, streams, claims),
+        parts::CLOSE => switch::close(ask.count, ask.node, streams, claims),
+        parts::HANDLE_UPDATE => switch::handle_update(ask.count, ask.node, streams, claims),
+        parts::SHUTDOWN => switch::shutdown(ask.count, streams, claims),
         _ => Board {
             streams: streams,
             claims: claims,

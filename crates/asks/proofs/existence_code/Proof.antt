@@ -17,18 +17,18 @@ returns-2 c =
     let a = c .before .before .args .ask in
     sym (no-existence (a .count) (a .node) (a .kind) (c .if2 .taken))
 
-has-node-requires : tie.Need-has-node-requires
-has-node-requires c κs = search needs
+is-node-requires : tie.Need-is-node-requires
+is-node-requires c κs = search needs
 
 returns-3 : tie.Need-returns-3
 returns-3 c =
     let a = c .before .before .before .before .before .args .ask in
-    sym (node-existence (a .count) (a .node) (a .kind) (omega arith) (omega arith) ∙ ap (λ (x : Bool). cond x stepDone wrongNode) (sym (c .before .has-node .ensures) ∙ c .if4 .taken))
+    sym (node-existence (a .count) (a .node) (a .kind) (omega arith) (omega arith) ∙ ap (λ (x : Bool). cond x stepDone wrongNode) (sym (c .before .is-node .ensures) ∙ c .if4 .taken))
 
 returns-4 : tie.Need-returns-4
 returns-4 c =
     let a = c .before .before .before .before .before .args .ask in
-    sym (node-existence (a .count) (a .node) (a .kind) (omega arith) (omega arith) ∙ ap (λ (x : Bool). cond x stepDone wrongNode) (sym (c .before .has-node .ensures) ∙ c .if4 .left))
+    sym (node-existence (a .count) (a .node) (a .kind) (omega arith) (omega arith) ∙ ap (λ (x : Bool). cond x stepDone wrongNode) (sym (c .before .is-node .ensures) ∙ c .if4 .left))
 
 returns-5 : tie.Need-returns-5
 returns-5 c =
@@ -41,4 +41,4 @@ returns-6 c =
     sym (power-existence (a .count) (a .node) (a .kind) (omega arith) (omega arith) ∙ ap (λ (x : Bool). cond x stepDone wrongNode) (ne-eqb (a .node) 0 (c .if5 .left)))
 
 pub existence-code-spec : {M : Type 1} → statement M
-existence-code-spec = tie.close (tie.spec returns returns-2 has-node-requires returns-3 returns-4 returns-5 returns-6)
+existence-code-spec = tie.close (tie.spec returns returns-2 is-node-requires returns-3 returns-4 returns-5 returns-6)

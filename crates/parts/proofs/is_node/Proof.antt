@@ -1,8 +1,8 @@
 -- `is_node` meets its contract. Assumes nothing.
 use Rattle.rules.specs.Range.{within}
 use Rattle.seqs.specs.Tests.{tests}
-use Rattle.queues.proofs.masterships.is_node.Statement.{statement}
-use Rattle.queues.proofs.masterships.is_node.Tie as tie
+use Rattle.parts.proofs.is_node.Statement.{statement}
+use Rattle.parts.proofs.is_node.Tie as tie
 
 returns : tie.Need-returns
 unfolding within
