@@ -53,14 +53,14 @@ record Element (A B : Type 0) : Type 1 where
 -- The places are what they hold, written.
 record Places {A B : Type 0} (e : Element A B) (size : ℕ) (l : List B) (len : ℕ) : Type 0 where
   items : padded (e .blank) (e .rep) size (map (e .hold) (take len l)) ≡ l
-  len : length (map (e .hold) (take len l)) ≡ len
+  held : length (map (e .hold) (take len l)) ≡ len
 
 module _ {A B : Type 0} (e : Element A B) (size : ℕ) (l : List B) (sized : length l ≡ size) (known : All (e .Known) l) where
   places-same : (len : ℕ) → T (tidyPlaces size (e .tidy) (e .isBlank) l len) → Places e size l len
   unfolding tidyPlaces
   places-same len t = let h = (is-le len size & as-is (all (e .tidy) (take len l)) & as-is (all (e .isBlank) (drop len l))) .to t in let z : len ≤ size = h .0 .0 in record {
     items = padded-same (e .blank) (e .rep) (e .hold) size len l sized (all-known (e .tidy) (e .same) (take len l) (all-take (e .Known) len l known) (h .0 .1)) (all-known (e .isBlank) (e .none) (drop len l) (all-drop (e .Known) len l known) (h .1));
-    len = length-map (take len l) (e .hold) ∙ length-take-le len l (omega arith);
+    held = length-map (take len l) (e .hold) ∙ length-take-le len l (omega arith);
   }
 
   -- All places are blank.
@@ -198,7 +198,7 @@ controller-same r k t =
     let q = r .events in
     let h = (as-is (tidyPlaces queueLength tidyMastership blankMastership (q .items) (q .len)) & as-is (tidyMastership (r .learned))) .to t in
     let events = places-same mastership queueLength (q .items) (k .events) (k .items) (q .len) (h .0) in
-    λ i. record { events = record { items = events .items i; len = events .len i }; learned = mastership-same (r .learned) (k .learned) (h .1) i; says = r .says }
+    λ i. record { events = record { items = events .items i; len = events .held i }; learned = mastership-same (r .learned) (k .learned) (h .1) i; says = r .says }
 
 controller-none : (r : Controller) → SizedController r → T (blankController r) → r ≡ packController [] S.blank false
 unfolding blankController
@@ -222,8 +222,8 @@ stream-same r k t =
     λ i. record {
       opened = r .opened;
       sent = r .sent;
-      requests = record { items = requests .items i; len = requests .len i };
-      responses = record { items = responses .items i; len = responses .len i };
+      requests = record { items = requests .items i; len = requests .held i };
+      responses = record { items = responses .items i; len = responses .held i };
     }
 
 stream-none : (r : Stream) → SizedStream r → T (blankStream r) → r ≡ packStream false 0 [] []
@@ -304,7 +304,7 @@ aWrite = record {
 
 history-same : (h : History) → length (h .items) ≡ historyLength → T (tidyHistory h) → packHistory (holdHistory h) ≡ h
 unfolding packHistory holdHistory tidyHistory
-history-same h e t = let p = places-same aWrite historyLength (h .items) e (all-any (h .items)) (h .len) t in λ i. record { items = p .items i; len = p .len i }
+history-same h e t = let p = places-same aWrite historyLength (h .items) e (all-any (h .items)) (h .len) t in λ i. record { items = p .items i; len = p .held i }
 
 -- ---- the state
 
