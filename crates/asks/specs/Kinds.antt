@@ -15,9 +15,9 @@ use Rattle.laws.specs.InRange.{Within}
 use Rattle.laws.specs.Kinds.{of-none, of-node, of-power}
 use Rattle.laws.specs.Tests.{is-eq, is-within, is-yes}
 use Rattle.asks.specs.declared.Ask.{Ask}
-use Rattle.asks.specs.Classes.{hasNode, rowKind, deskKind, atRow, atDesk, existenceOf}
+use Rattle.asks.specs.Groups.{hasNode, rowKind, deskKind, atRow, atDesk, existenceOf}
 
--- ---- which kinds each class has
+-- ---- which kinds each group has
 
 pub data RowKind : ℕ → Type 0 where
   learns : RowKind 3

@@ -1,2 +1,2 @@
-pub mod Classes
+pub mod Groups
 pub mod Kinds

@@ -1,6 +1,6 @@
 // A step that is asked for: which part of the state it concerns, whether it exists, and whether the switch runs after it.
 ghost use mathlib.Core.Path.{_≡_};
-ghost use Rattle.asks.specs.Classes.{rowKind, atRow, atDesk, existence, runsAfter};
+ghost use Rattle.asks.specs.Groups.{rowKind, atRow, atDesk, existence, runsAfter};
 
 // A step that is asked for, with the node count and whether the switch runs.
 pub struct Ask {

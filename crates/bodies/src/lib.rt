@@ -10,7 +10,7 @@ ghost use Rattle.rules.specs.Step.{kindOf, ofKind};
 ghost use Rattle.moves.specs.Bodies.{stateOf, Ready, Leaves};
 ghost use Rattle.moves.specs.Sets.{withDesk, withController, withBoard};
 ghost use Rattle.moves.specs.Acts.{plain};
-ghost use Rattle.asks.specs.Classes.{atRow, atDesk};
+ghost use Rattle.asks.specs.Groups.{atRow, atDesk};
 ghost use Rattle.turns.specs.Called.{askOf};
 ghost use Rattle.turns.specs.RowTurns.{rowMoved};
 use asks::Ask;

@@ -28,7 +28,7 @@ use Rattle.moves.specs.Acts.{plain}
 use Rattle.rules.specs.Rules.{learnRule}
 use Rattle.service.specs.Asks.{hears}
 use Rattle.service.specs.Posting.{all-heard}
-use Rattle.asks.specs.Classes.{atRow, atDesk, runsAfter}
+use Rattle.asks.specs.Groups.{atRow, atDesk, runsAfter}
 use Rattle.asks.specs.Kinds.{RowKind, DeskKind, row-at, desk-at}
 use Rattle.turns.specs.At.{At}
 use Rattle.turns.specs.declared.Row.{Row}
@@ -43,7 +43,7 @@ use Rattle.lists.specs.declared.Trailer.{Trailer}
 use Rattle.runner.specs.Tables.{bodyIn, pending, settled}
 use Rattle.runner.specs.Running.{ifAccepted, Runs, Running, ready, room-left, goes-on}
 
--- The code is the answer of the class that the step is of. The history holds `writes`.
+-- The code is the answer of the group that the step is of. The history holds `writes`.
 pub data Coded (table : Table) (e : Event) (writes code : ℕ) : Type 0 where
   of-row : atRow (askOf (bodyIn table) (e .kind) (e .node)) ≡ true
       → code ≡ rowAnswer (askOf (bodyIn table) (e .kind) (e .node)) writes (controllerOf (bodyIn table) (e .node)) (streamOf (bodyIn table) (e .node)) (table .claims) → Coded table e writes code

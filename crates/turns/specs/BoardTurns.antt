@@ -28,7 +28,7 @@ use Rattle.moves.specs.Sets.{withBoard}
 use Rattle.moves.specs.Stored.{in-order-board, few}
 use Rattle.moves.specs.Acts.{plain}
 use Rattle.switch.proofs.Callers.{close-tells, close-effect, update-tells, update-effect}
-use Rattle.asks.specs.Classes.{atRow, atDesk, existenceOf, existence, runsAfter}
+use Rattle.asks.specs.Groups.{atRow, atDesk, existenceOf, existence, runsAfter}
 use Rattle.asks.specs.Kinds.{BoardKind, close, handleUpdate, shutdown, startup, board-kind, board-node, board-none}
 use Rattle.turns.specs.At.{At}
 use Rattle.turns.specs.Switch.{at-board, tell-yes, shutdown-yes, startup-yes}

@@ -1,4 +1,4 @@
--- What a step answers and leaves, by its class, on the structs that the class concerns.
+-- What a step answers and leaves, by its group, on the structs that the group concerns.
 use mathlib.Core.Bool.{Bool, true, false, cond}
 use mathlib.Core.List.{List, [], _∷_}
 use Prim.Native.Nat.{ℕ, _-_}
@@ -6,7 +6,8 @@ use lib.Dec.{eqb}
 use lib.ListN.{getD}
 use Rattle.rules.specs.Codes.{stepDone}
 use Rattle.rules.specs.Part.{decide}
-use Rattle.rules.specs.Rules.{joinRule, leaveRule, joined, left, handsOver, learnRule, sendUpdateRule, receiveUpdateRule, sendWriteRule, receiveWriteRule, connectRule, closeRule, handleUpdateRule, handleWriteRule, shutdownRule, startupRule, cleared}
+use Rattle.rules.specs.Rules.{joinRule, leaveRule, joined, left, handsOver, learnRule, sendUpdateRule, receiveUpdateRule, sendWriteRule, receiveWriteRule, connectRule, closeRule, handleUpdateRule, handleWriteRule, shutdownRule, startupRule, cleared, join, learns, sendUpdate, close}
+use Rattle.rules.specs.Step.{numberOf}
 use Rattle.parts.specs.Hold.{holdMastership, packMastership}
 use Rattle.parts.specs.declared.Mastership.{Mastership}
 use Rattle.state.specs.Hold.{holdDesk, holdBoard}
@@ -20,7 +21,7 @@ use Rattle.nodes.specs.Waiting.{received}
 use Rattle.writing.specs.Handled.{storeHandled}
 use Rattle.writing.specs.declared.Handled.{Handled}
 use Rattle.asks.specs.declared.Ask.{Ask}
-use Rattle.asks.specs.Classes.{existence}
+use Rattle.asks.specs.Groups.{existence}
 use Rattle.turns.specs.declared.Row.{Row}
 
 -- ---- the answers
@@ -33,13 +34,13 @@ rowAnswer a writes controller stream claims =
     ∷ answerOf (decide (receiveUpdateRule (a .node)) (receiverOf (a .count) controller stream))
     ∷ answerOf (decide (sendWriteRule (a .node)) (senderOf (a .count) controller stream))
     ∷ answerOf (decide receiveWriteRule (receiverOf (a .count) controller stream))
-    ∷ answerOf (decide connectRule (linkedOf (a .running) stream)) ∷ []) (a .kind - 3)
+    ∷ answerOf (decide connectRule (linkedOf (a .running) stream)) ∷ []) (a .kind - numberOf learns)
     (answerOf (decide (handleWriteRule (a .node)) (servedOf (a .count) (a .node) (a .running) stream claims writes)))
 
 -- Kinds 1 and 2.
 abbrev pub deskAnswer : Ask → Mastership → List Controller → ℕ
 deskAnswer a service controllers =
-    cond (eqb (a .kind) 1)
+    cond (eqb (a .kind) (numberOf join))
     (answerOf (decide (joinRule (a .node)) (holdDesk (a .count) service controllers)))
     (answerOf (decide (leaveRule (a .node)) (holdDesk (a .count) service controllers)))
 
@@ -49,7 +50,7 @@ switchAnswer a streams claims =
     getD (answerOf (decide (closeRule (a .node)) (toldOf (a .count) (a .node) (a .running) streams claims))
     ∷ answerOf (decide (handleUpdateRule (a .node)) (toldOf (a .count) (a .node) (a .running) streams claims))
     ∷ stepDone
-    ∷ answerOf (decide shutdownRule (powerOf (a .count) (a .running) streams claims)) ∷ []) (a .kind - 9)
+    ∷ answerOf (decide shutdownRule (powerOf (a .count) (a .running) streams claims)) ∷ []) (a .kind - numberOf close)
     (answerOf (decide startupRule (powerOf (a .count) (a .running) streams claims)))
 
 abbrev pub boardAnswer : Ask → List Stream → Claims → ℕ
@@ -89,15 +90,15 @@ rowAfter a controller stream claims =
     ∷ flaggedRow a controller stream claims
     ∷ quiet a controller claims (storeSent (sendWriteRule (a .node) .effect (senderOf (a .count) controller stream)) stream)
     ∷ quiet a controller claims (received stream)
-    ∷ quiet a controller claims (storeOpen true stream) ∷ []) (a .kind - 4)
+    ∷ quiet a controller claims (storeOpen true stream) ∷ []) (a .kind - numberOf sendUpdate)
     (writtenRow a controller stream claims)
 
 -- Kinds 1 and 2: the service's mastership, and whether the nodes hear of it.
 abbrev pub serviceAfter : Ask → Mastership → Mastership
-serviceAfter a service = cond (eqb (a .kind) 1) (packMastership (joined (a .node) (holdMastership service))) (packMastership (left (a .node) (holdMastership service)))
+serviceAfter a service = cond (eqb (a .kind) (numberOf join)) (packMastership (joined (a .node) (holdMastership service))) (packMastership (left (a .node) (holdMastership service)))
 
 abbrev pub posting : Ask → Mastership → Bool
-posting a service = cond (eqb (a .kind) 1) true (handsOver (a .node) (holdMastership service))
+posting a service = cond (eqb (a .kind) (numberOf join)) true (handsOver (a .node) (holdMastership service))
 
 -- Kinds 9 and 10, 12 and 13: the board.
 abbrev pub boardAfter : Ask → List Stream → Claims → Board
@@ -105,5 +106,5 @@ boardAfter a streams claims =
     getD (storeTelling (a .node) (closeRule (a .node) .effect (toldOf (a .count) (a .node) true streams claims)) (a .count) streams claims
     ∷ storeTelling (a .node) (handleUpdateRule (a .node) .effect (toldOf (a .count) (a .node) true streams claims)) (a .count) streams claims
     ∷ record { streams = streams; claims = claims }
-    ∷ packBoard (cleared (holdBoard (a .count) streams claims)) ∷ []) (a .kind - 9)
+    ∷ packBoard (cleared (holdBoard (a .count) streams claims)) ∷ []) (a .kind - numberOf close)
     (record { streams = streams; claims = claims })

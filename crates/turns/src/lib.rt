@@ -1,11 +1,13 @@
-// What a step answers, and what it leaves, class by class and on no more than it concerns: kinds 3 to 8 and 11 a node and its stream, kinds 1 and 2
+// What a step answers, and what it leaves, group by group and on no more than it concerns: kinds 3 to 8 and 11 a node and its stream, kinds 1 and 2
 // the service and all nodes, kinds 9, 10, 12 and 13 the switch and all streams. An answer only reads; what is left is asked for where it is 0.
 ghost use mathlib.Core.Path.{_≡_};
 ghost use mathlib.Core.Logic.{_≢_};
 ghost use mathlib.Core.Bool.{cond};
 ghost use Rattle.rules.specs.Codes.{stepDone, notAllowed};
+ghost use Rattle.rules.specs.Rules.{learns};
+ghost use Rattle.rules.specs.Step.{numberOf};
 ghost use Rattle.state.specs.Order.{OrderedControllers};
-ghost use Rattle.asks.specs.Classes.{existence};
+ghost use Rattle.asks.specs.Groups.{existence};
 ghost use Rattle.nodes.specs.Waiting.{Waits};
 ghost use Rattle.writing.specs.Asks.{CanWrite};
 ghost use Rattle.turns.specs.Turns.{rowAnswer, deskAnswer, switchAnswer, boardAnswer, quiet, flaggedRow, writtenRow, rowAfter, serviceAfter, posting, boardAfter};
@@ -164,7 +166,7 @@ fn written(ask: Ask, controller: Controller, stream: Stream, claims: Claims) -> 
 
 // Of a node and its stream, by every kind but Learn.
 pub fn row_after(ask: Ask, controller: Controller, stream: Stream, claims: Claims) -> Row
-    requires { ⌜ RowGoes ask controller stream claims × (ask .kind ≢ 3) ⌝ }
+    requires { ⌜ RowGoes ask controller stream claims × (ask .kind ≢ numberOf learns) ⌝ }
     ensures { λ r. ⌜ r ≡ rowAfter ask controller stream claims ⌝ }
 {
     let kind = ask.kind;

@@ -11,7 +11,7 @@ use Rattle.state.specs.declared.Table.{Table}
 use Rattle.moves.specs.Sets.{withBoard}
 use Rattle.moves.specs.Stored.{few, in-order-controllers}
 use Rattle.asks.specs.declared.Ask.{Ask}
-use Rattle.asks.specs.Classes.{atRow, atDesk}
+use Rattle.asks.specs.Groups.{atRow, atDesk}
 use Rattle.turns.specs.Called.{askOf}
 use Rattle.turns.specs.At.{At}
 use Rattle.turns.specs.Nodes.{controller-ordered}
@@ -65,7 +65,7 @@ turn r =
     let k = s .pre .trailer .records in
     record { runs = s .pre; now = l .loop .inv .2; all = omega arith; is = r .read-record .ensures; lt = omega arith }
 
--- its answer, by its class
+-- its answer, by its group
 coded : (j : tie.Joined3 Inv-loop μ-loop) → let r = j .before .before in Coded (table-of r) (event-of r) (r .before .before .before .before .loop .writes) (j .if3 .code)
 coded j =
     let row = sym (j .before .at-row .ensures) in
@@ -74,7 +74,7 @@ coded j =
     (λ x. of-board (row ∙ x .0 .left) (sym (x .1 .ensures) ∙ x .2 .left) (x .6 ∙ x .5 .ensures)) y)
     (j .if3 .came)
 
--- ---- the class, where the answer is asked for and where it is 0
+-- ---- the group, where the answer is asked for and where it is 0
 
 is-row : (g : tie.Then3 Inv-loop μ-loop) → atRow (ask-of (g .before .before)) ≡ true
 is-row g = sym (g .before .at-row .ensures) ∙ g .if3 .taken
