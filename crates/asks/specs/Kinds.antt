@@ -7,7 +7,7 @@ use native.Mathlib.Omega.{arith}
 use native.Mathlib.Decide.{ℕ-discrete}
 use lib.Dec.{eqb, leb}
 use borrow.Author.Tests.{le-leb, lt-leb}
-use Rattle.rules.specs.Codes.{stepDone, unknownKind, unknownNode}
+use Rattle.rules.specs.Codes.{stepDone, unknownKind, wrongNode}
 use Rattle.rules.specs.Range.{within}
 use Rattle.rules.specs.Rules as R
 use Rattle.rules.specs.Step.{kindOf}
@@ -15,9 +15,9 @@ use Rattle.laws.specs.InRange.{Within}
 use Rattle.laws.specs.Kinds.{of-none, of-node, of-power}
 use Rattle.laws.specs.Tests.{is-eq, is-within, is-yes}
 use Rattle.asks.specs.declared.Ask.{Ask}
-use Rattle.asks.specs.Classes.{hasNode, rowKind, deskKind, atRow, atDesk, barrierOf}
+use Rattle.asks.specs.Groups.{hasNode, rowKind, deskKind, atRow, atDesk, existenceOf}
 
--- ---- which kinds each class has
+-- ---- which kinds each group has
 
 pub data RowKind : ℕ → Type 0 where
   learns : RowKind 3
@@ -32,11 +32,11 @@ pub data DeskKind : ℕ → Type 0 where
   join : DeskKind 1
   leave : DeskKind 2
 
-pub data WireKind : ℕ → Type 0 where
-  close : WireKind 9
-  handleUpdate : WireKind 10
-  shutdown : WireKind 12
-  startup : WireKind 13
+pub data BoardKind : ℕ → Type 0 where
+  close : BoardKind 9
+  handleUpdate : BoardKind 10
+  shutdown : BoardKind 12
+  startup : BoardKind 13
 
 -- ---- a number within bounds, or not
 
@@ -89,11 +89,11 @@ both true y e = (refl, e)
 both false y e = let w : _≡_ {A = ℕ} 0 1 = cc in absurd (omega arith)
 
 module _ (a : Ask) where
-  pub row-at : atRow a ≡ true → RowKind (a .kind) × Within 1 (a .count) (a .number)
-  row-at e = let t = both (rowKind (a .kind)) (hasNode a) e in (row-kind (a .kind) (t .0), is-within 1 (a .count) (a .number) .to (is-yes (hasNode a) .from (t .1)))
+  pub row-at : atRow a ≡ true → RowKind (a .kind) × Within 1 (a .count) (a .node)
+  row-at e = let t = both (rowKind (a .kind)) (hasNode a) e in (row-kind (a .kind) (t .0), is-within 1 (a .count) (a .node) .to (is-yes (hasNode a) .from (t .1)))
 
-  pub desk-at : atDesk a ≡ true → DeskKind (a .kind) × Within 1 (a .count) (a .number)
-  desk-at e = let t = both (deskKind (a .kind)) (hasNode a) e in (desk-kind (a .kind) (t .0), is-within 1 (a .count) (a .number) .to (is-yes (hasNode a) .from (t .1)))
+  pub desk-at : atDesk a ≡ true → DeskKind (a .kind) × Within 1 (a .count) (a .node)
+  desk-at e = let t = both (deskKind (a .kind)) (hasNode a) e in (desk-kind (a .kind) (t .0), is-within 1 (a .count) (a .node) .to (is-yes (hasNode a) .from (t .1)))
 
 -- ---- the last of a match
 
@@ -110,61 +110,61 @@ pub last-desk : (k : ℕ) → DeskKind k → k ≢ 1 → k ≡ 2
 last-desk _ join a = absurd (a refl)
 last-desk _ leave a = refl
 
-pub last-wire : (k : ℕ) → WireKind k → k ≢ 9 → k ≢ 10 → k ≢ 12 → k ≡ 13
-last-wire _ close a b c = absurd (a refl)
-last-wire _ handleUpdate a b c = absurd (b refl)
-last-wire _ shutdown a b c = absurd (c refl)
-last-wire _ startup a b c = refl
+pub last-board : (k : ℕ) → BoardKind k → k ≢ 9 → k ≢ 10 → k ≢ 12 → k ≡ 13
+last-board _ close a b c = absurd (a refl)
+last-board _ handleUpdate a b c = absurd (b refl)
+last-board _ shutdown a b c = absurd (c refl)
+last-board _ startup a b c = refl
 
 -- ---- whether a kind exists, and the node is one that it calls for: one of the N for kinds 1 to 11, and 0 for 12 and 13
 
 module _ (count n : ℕ) where
-  pub no-barrier : (k : ℕ) → 13 < k → barrierOf (kindOf k) count n ≡ unknownKind
-  no-barrier k h = of-none (λ o. barrierOf o count n) (cond (within 1 count n) stepDone unknownNode) (cond (eqb n 0) stepDone unknownNode) refl k h
+  pub no-existence : (k : ℕ) → 13 < k → existenceOf (kindOf k) count n ≡ unknownKind
+  no-existence k h = of-none (λ o. existenceOf o count n) (cond (within 1 count n) stepDone wrongNode) (cond (eqb n 0) stepDone wrongNode) refl k h
 
-  pub node-barrier : (k : ℕ) → 1 ≤ k → k ≤ 11 → barrierOf (kindOf k) count n ≡ cond (within 1 count n) stepDone unknownNode
-  node-barrier k h j = of-node (λ o. barrierOf o count n) (cond (within 1 count n) stepDone unknownNode) (cond (eqb n 0) stepDone unknownNode) refl k h (omega arith)
+  pub node-existence : (k : ℕ) → 1 ≤ k → k ≤ 11 → existenceOf (kindOf k) count n ≡ cond (within 1 count n) stepDone wrongNode
+  node-existence k h j = of-node (λ o. existenceOf o count n) (cond (within 1 count n) stepDone wrongNode) (cond (eqb n 0) stepDone wrongNode) refl k h (omega arith)
 
-  pub power-barrier : (k : ℕ) → 12 ≤ k → k ≤ 13 → barrierOf (kindOf k) count n ≡ cond (eqb n 0) stepDone unknownNode
-  power-barrier k h j = of-power (λ o. barrierOf o count n) (cond (within 1 count n) stepDone unknownNode) (cond (eqb n 0) stepDone unknownNode) refl k h (omega arith)
+  pub power-existence : (k : ℕ) → 12 ≤ k → k ≤ 13 → existenceOf (kindOf k) count n ≡ cond (eqb n 0) stepDone wrongNode
+  power-existence k h j = of-power (λ o. existenceOf o count n) (cond (within 1 count n) stepDone wrongNode) (cond (eqb n 0) stepDone wrongNode) refl k h (omega arith)
 
 -- ---- neither a row's kind nor the service's
 
 module _ (count n : ℕ) where
-  yes-of : (x : Bool) → cond x stepDone unknownNode ≡ stepDone → x ≡ true
+  yes-of : (x : Bool) → cond x stepDone wrongNode ≡ stepDone → x ≡ true
   yes-of true e = refl
   yes-of false e = absurd (omega arith)
 
-  clash : (x : Bool) → cond x stepDone unknownNode ≡ stepDone → x ≡ false → ⊥
+  clash : (x : Bool) → cond x stepDone wrongNode ≡ stepDone → x ≡ false → ⊥
   clash true e f = let w : _≡_ {A = ℕ} 0 1 = cc in absurd (omega arith)
   clash false e f = absurd (omega arith)
 
-  pub wire-kind : (k : ℕ) → (rowKind k && within 1 count n) ≡ false → (deskKind k && within 1 count n) ≡ false → barrierOf (kindOf k) count n ≡ stepDone → WireKind k
+  pub board-kind : (k : ℕ) → (rowKind k && within 1 count n) ≡ false → (deskKind k && within 1 count n) ≡ false → existenceOf (kindOf k) count n ≡ stepDone → BoardKind k
   unfolding within
-  wire-kind zero r d z = absurd (omega arith)
-  wire-kind (suc zero) r d z = absurd (clash (within 1 count n) z d)
-  wire-kind (suc (suc zero)) r d z = absurd (clash (within 1 count n) z d)
-  wire-kind (suc (suc (suc zero))) r d z = absurd (clash (within 1 count n) z r)
-  wire-kind (suc (suc (suc (suc zero)))) r d z = absurd (clash (within 1 count n) z r)
-  wire-kind (suc (suc (suc (suc (suc zero))))) r d z = absurd (clash (within 1 count n) z r)
-  wire-kind (suc (suc (suc (suc (suc (suc zero)))))) r d z = absurd (clash (within 1 count n) z r)
-  wire-kind (suc (suc (suc (suc (suc (suc (suc zero))))))) r d z = absurd (clash (within 1 count n) z r)
-  wire-kind (suc (suc (suc (suc (suc (suc (suc (suc zero)))))))) r d z = absurd (clash (within 1 count n) z r)
-  wire-kind (suc (suc (suc (suc (suc (suc (suc (suc (suc zero))))))))) r d z = close
-  wire-kind (suc (suc (suc (suc (suc (suc (suc (suc (suc (suc zero)))))))))) r d z = handleUpdate
-  wire-kind (suc (suc (suc (suc (suc (suc (suc (suc (suc (suc (suc zero))))))))))) r d z = absurd (clash (within 1 count n) z r)
-  wire-kind (suc (suc (suc (suc (suc (suc (suc (suc (suc (suc (suc (suc zero)))))))))))) r d z = shutdown
-  wire-kind (suc (suc (suc (suc (suc (suc (suc (suc (suc (suc (suc (suc (suc zero))))))))))))) r d z = startup
-  wire-kind (suc (suc (suc (suc (suc (suc (suc (suc (suc (suc (suc (suc (suc (suc k)))))))))))))) r d z = absurd (omega arith)
+  board-kind zero r d z = absurd (omega arith)
+  board-kind (suc zero) r d z = absurd (clash (within 1 count n) z d)
+  board-kind (suc (suc zero)) r d z = absurd (clash (within 1 count n) z d)
+  board-kind (suc (suc (suc zero))) r d z = absurd (clash (within 1 count n) z r)
+  board-kind (suc (suc (suc (suc zero)))) r d z = absurd (clash (within 1 count n) z r)
+  board-kind (suc (suc (suc (suc (suc zero))))) r d z = absurd (clash (within 1 count n) z r)
+  board-kind (suc (suc (suc (suc (suc (suc zero)))))) r d z = absurd (clash (within 1 count n) z r)
+  board-kind (suc (suc (suc (suc (suc (suc (suc zero))))))) r d z = absurd (clash (within 1 count n) z r)
+  board-kind (suc (suc (suc (suc (suc (suc (suc (suc zero)))))))) r d z = absurd (clash (within 1 count n) z r)
+  board-kind (suc (suc (suc (suc (suc (suc (suc (suc (suc zero))))))))) r d z = close
+  board-kind (suc (suc (suc (suc (suc (suc (suc (suc (suc (suc zero)))))))))) r d z = handleUpdate
+  board-kind (suc (suc (suc (suc (suc (suc (suc (suc (suc (suc (suc zero))))))))))) r d z = absurd (clash (within 1 count n) z r)
+  board-kind (suc (suc (suc (suc (suc (suc (suc (suc (suc (suc (suc (suc zero)))))))))))) r d z = shutdown
+  board-kind (suc (suc (suc (suc (suc (suc (suc (suc (suc (suc (suc (suc (suc zero))))))))))))) r d z = startup
+  board-kind (suc (suc (suc (suc (suc (suc (suc (suc (suc (suc (suc (suc (suc (suc k)))))))))))))) r d z = absurd (omega arith)
 
-  pub wire-node : (k : ℕ) → WireKind k → k ≤ 10 → barrierOf (kindOf k) count n ≡ stepDone → within 1 count n ≡ true
-  wire-node _ close h z = yes-of (within 1 count n) z
-  wire-node _ handleUpdate h z = yes-of (within 1 count n) z
-  wire-node _ shutdown h z = absurd (omega arith)
-  wire-node _ startup h z = absurd (omega arith)
+  pub board-node : (k : ℕ) → BoardKind k → k ≤ 10 → existenceOf (kindOf k) count n ≡ stepDone → within 1 count n ≡ true
+  board-node _ close h z = yes-of (within 1 count n) z
+  board-node _ handleUpdate h z = yes-of (within 1 count n) z
+  board-node _ shutdown h z = absurd (omega arith)
+  board-node _ startup h z = absurd (omega arith)
 
-  pub wire-none : (k : ℕ) → WireKind k → 12 ≤ k → barrierOf (kindOf k) count n ≡ stepDone → n ≡ 0
-  wire-none _ close h z = absurd (omega arith)
-  wire-none _ handleUpdate h z = absurd (omega arith)
-  wire-none _ shutdown h z = is-eq n 0 .to (is-yes (eqb n 0) .from (yes-of (eqb n 0) z))
-  wire-none _ startup h z = is-eq n 0 .to (is-yes (eqb n 0) .from (yes-of (eqb n 0) z))
+  pub board-none : (k : ℕ) → BoardKind k → 12 ≤ k → existenceOf (kindOf k) count n ≡ stepDone → n ≡ 0
+  board-none _ close h z = absurd (omega arith)
+  board-none _ handleUpdate h z = absurd (omega arith)
+  board-none _ shutdown h z = is-eq n 0 .to (is-yes (eqb n 0) .from (yes-of (eqb n 0) z))
+  board-none _ startup h z = is-eq n 0 .to (is-yes (eqb n 0) .from (yes-of (eqb n 0) z))

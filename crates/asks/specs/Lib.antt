@@ -1,4 +1,2 @@
--- Definitions: Classes.
--- Laws: Kinds.
-pub mod Classes
+pub mod Groups
 pub mod Kinds

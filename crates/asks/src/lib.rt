@@ -1,34 +1,25 @@
 // A step that is asked for: which part of the state it concerns, whether it exists, and whether the switch runs after it.
 ghost use mathlib.Core.Path.{_≡_};
-ghost use Rattle.asks.specs.Classes.{hasNode, rowKind, atRow, atDesk, barrier, runsAfter};
+ghost use Rattle.asks.specs.Groups.{rowKind, atRow, atDesk, existence, runsAfter};
 
 // A step that is asked for, with the node count and whether the switch runs.
 pub struct Ask {
     pub count: u8,
     pub running: bool,
     pub kind: u8,
-    pub number: u8,
-}
-
-fn has_node(ask: Ask) -> bool
-    ensures { λ r. ⌜ r ≡ hasNode ask ⌝ }
-{
-    if ask.number == 0 {
-        return false;
-    }
-    ask.number <= ask.count
+    pub node: u8,
 }
 
 fn is_row_kind(kind: u8) -> bool
     ensures { λ r. ⌜ r ≡ rowKind kind ⌝ }
 {
-    if kind == 11 {
+    if kind == parts::HANDLE_WRITE {
         return true;
     }
-    if kind < 3 {
+    if kind < parts::LEARN {
         return false;
     }
-    kind <= 8
+    kind <= parts::CONNECT
 }
 
 // A node and its stream.
@@ -36,7 +27,7 @@ pub fn at_row(ask: Ask) -> bool
     ensures { λ r. ⌜ r ≡ atRow ask ⌝ }
 {
     if is_row_kind(ask.kind) {
-        return has_node(ask);
+        return parts::is_node(ask.count, ask.node);
     }
     false
 }
@@ -48,43 +39,43 @@ pub fn at_desk(ask: Ask) -> bool
     if ask.kind == 0 {
         return false;
     }
-    if 2 < ask.kind {
+    if parts::LEAVE < ask.kind {
         return false;
     }
-    has_node(ask)
+    parts::is_node(ask.count, ask.node)
 }
 
-// Whether the kind exists and calls for the node.
-pub fn barrier(ask: Ask) -> u8
-    ensures { λ r. ⌜ r ≡ barrier ask ⌝ }
+// Why there is no such step: the kind is unknown, or it does not call for the node. Done where there is.
+pub fn existence_code(ask: Ask) -> u8
+    ensures { λ r. ⌜ r ≡ existence ask ⌝ }
 {
     let kind = ask.kind;
     if kind == 0 {
         return parts::UNKNOWN_KIND;
     }
-    if 13 < kind {
+    if parts::STARTUP < kind {
         return parts::UNKNOWN_KIND;
     }
-    if kind < 12 {
-        if has_node(ask) {
+    if kind < parts::SHUTDOWN {
+        if parts::is_node(ask.count, ask.node) {
             return parts::DONE;
         }
-        return parts::UNKNOWN_NODE;
+        return parts::WRONG_NODE;
     }
-    if ask.number == 0 {
+    if ask.node == 0 {
         return parts::DONE;
     }
-    parts::UNKNOWN_NODE
+    parts::WRONG_NODE
 }
 
 // Whether the switch runs after the step.
 pub fn runs_after(ask: Ask) -> bool
     ensures { λ r. ⌜ r ≡ runsAfter ask ⌝ }
 {
-    if ask.kind == 13 {
+    if ask.kind == parts::STARTUP {
         return true;
     }
-    if ask.kind == 12 {
+    if ask.kind == parts::SHUTDOWN {
         return false;
     }
     ask.running

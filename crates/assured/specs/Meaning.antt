@@ -9,7 +9,7 @@ use native.Mathlib.Nat.{add-zero, zero-add, suc-add, add-suc}
 use native.Mathlib.Omega.{arith}
 use native.Mathlib.Decide.{ℕ-discrete}
 use lib.Dec.{T}
-use Rattle.rules.specs.Codes.{badLength, badTrailer, badNodeCount, badSum}
+use Rattle.rules.specs.Codes.{badLength, badMark, badNodeCount, badExtent}
 use Rattle.rules.specs.Step.{Event}
 use Rattle.merges.specs.Independent.{independent}
 use Rattle.seqs.specs.Arrays.{table}
@@ -92,7 +92,7 @@ small-refusal : (list : List ℕ) → refusal list ≤ 11
 unfolding refusal
 small-refusal list = go (lengthFits list) (trailerFits list) (nodesFit list) (sumFits list)
   where
-    go : (a b c d : Bool) → need a badLength (need b badTrailer (need c badNodeCount (need d badSum 0))) ≤ 11
+    go : (a b c d : Bool) → need a badLength (need b badMark (need c badNodeCount (need d badExtent 0))) ≤ 11
     go false b c d = omega arith
     go true false c d = omega arith
     go true true false d = omega arith

@@ -23,31 +23,31 @@ use Rattle.audit.specs.Buffers.{first-piece, second-piece, what-stays}
 
 -- ---- the buffer that one run leaves
 
--- After `count` answers and `size` bytes of history.
-record Filled (list out : List ℕ) (count size : ℕ) : Type 0 where
-  answers : take count (ran list out .out) ≡ wholeRun list .answer
-  entries : take size (drop count (ran list out .out)) ≡ historyBytes (wholeRun list .state .history)
-  rest : drop (count + size) (ran list out .out) ≡ drop (count + size) out
+-- After `total` answers and `size` bytes of history.
+record Filled (list out : List ℕ) (total size : ℕ) : Type 0 where
+  answers : take total (ran list out .out) ≡ wholeRun list .answer
+  entries : take size (drop total (ran list out .out)) ≡ historyBytes (wholeRun list .state .history)
+  rest : drop (total + size) (ran list out .out) ≡ drop (total + size) out
 
 filled : (list out : List ℕ) → refusal list ≡ 0 → recordCount list + historyRoom ≤ length out
-    → {count size : ℕ} → recordCount list ≡ count → historySize list ≡ size → Filled list out count size
-filled list out accepted room {count} {size} c s =
+    → {total size : ℕ} → recordCount list ≡ total → historySize list ≡ size → Filled list out total size
+filled list out accepted room {total} {size} c s =
     let t = wholeRun list in
     let b = historyBytes (t .state .history) in
     let done = ran-all list out accepted room in
     let n = run-length step (fresh (nodeCount list)) (records list) ∙ records-length list ∙ c in
     let m = history-length (t .state .history) ∙ s in
     record {
-      answers = ap (λ (x : Ran). take count (x .out)) done ∙ first-piece (t .answer) b out n m;
-      entries = ap (λ (x : Ran). take size (drop count (x .out))) done ∙ second-piece (t .answer) b out n m;
-      rest = ap (λ (x : Ran). drop (count + size) (x .out)) done ∙ what-stays (t .answer) b out n m;
+      answers = ap (λ (x : Ran). take total (x .out)) done ∙ first-piece (t .answer) b out n m;
+      entries = ap (λ (x : Ran). take size (drop total (x .out))) done ∙ second-piece (t .answer) b out n m;
+      rest = ap (λ (x : Ran). drop (total + size) (x .out)) done ∙ what-stays (t .answer) b out n m;
     }
 
 -- ---- two runs
 
 module _ {list other is : List ℕ} (r : Remerged list other is) where
-  same-count : recordCount other ≡ recordCount list
-  same-count = sym (records-length other) ∙ ap length (r .exchanged) ∙ swaps-length is (records list) ∙ records-length list
+  same-records : recordCount other ≡ recordCount list
+  same-records = sym (records-length other) ∙ ap length (r .exchanged) ∙ swaps-length is (records list) ∙ records-length list
 
   runs-as : wholeRun other ≡ run step (fresh (nodeCount list)) (swaps is (records list))
   runs-as = ap₂ (λ (n : ℕ) (es : List Event). run step (fresh n) es) (r .nodes) (r .exchanged)
@@ -64,7 +64,7 @@ module _ {list other is : List ℕ} (r : Remerged list other is) where
 
 pub audit : Audited
 audit list other is out r room =
-    let n = same-count r in
+    let n = same-records r in
     let room′ : recordCount other + historyRoom ≤ length out = omega arith in
     let h = ap (λ (t : State). t .history) (same-state r) in
     let f = filled list out (r .accepted) room refl refl in

@@ -8,18 +8,18 @@ ghost use Rattle.rules.specs.Limits.{mostNodes};
 ghost use Rattle.rules.specs.State as S;
 ghost use Rattle.rules.specs.Step.{kindOf, ofKind};
 ghost use Rattle.moves.specs.Bodies.{stateOf, Ready, Leaves};
-ghost use Rattle.moves.specs.Sets.{withDesk, withNode, withWire};
+ghost use Rattle.moves.specs.Sets.{withDesk, withController, withBoard};
 ghost use Rattle.moves.specs.Acts.{plain};
-ghost use Rattle.asks.specs.Classes.{atRow, atDesk};
+ghost use Rattle.asks.specs.Groups.{atRow, atDesk};
 ghost use Rattle.turns.specs.Called.{askOf};
 ghost use Rattle.turns.specs.RowTurns.{rowMoved};
 use asks::Ask;
 use parts::Mastership;
 use parts::Term;
+use state::Board;
 use state::Body;
+use state::Controller;
 use state::Moved;
-use state::Node;
-use state::Wire;
 use turns::Row;
 
 // The body stays as it is, or was changed, and no write was accepted.
@@ -34,34 +34,34 @@ fn plain(code: u8, body: Body) -> Moved
     }
 }
 
-fn with_node(body: Body, number: u8, node: Node) -> Body
-    requires { ⌜ (1 ≤ number) × (number ≤ mostNodes) ⌝ }
-    ensures { λ r. ⌜ r ≡ withNode number node body ⌝ }
+fn with_controller(body: Body, node: u8, controller: Controller) -> Body
+    requires { ⌜ (1 ≤ node) × (node ≤ mostNodes) ⌝ }
+    ensures { λ r. ⌜ r ≡ withController node controller body ⌝ }
 {
-    let at = (number - 1) as usize;
+    let at = (node - 1) as usize;
     let mut core = body.core;
-    core.nodes[at] = node;
+    core.controllers[at] = controller;
     let mut next = body;
     next.core = core;
     next
 }
 
-fn with_desk(body: Body, service: Mastership, nodes: [Node; 8]) -> Body
-    ensures { λ r. ⌜ r ≡ withDesk service nodes body ⌝ }
+fn with_desk(body: Body, service: Mastership, controllers: [Controller; 8]) -> Body
+    ensures { λ r. ⌜ r ≡ withDesk service controllers body ⌝ }
 {
     let mut core = body.core;
     core.service = service;
-    core.nodes = nodes;
+    core.controllers = controllers;
     let mut next = body;
     next.core = core;
     next
 }
 
-fn with_wire(body: Body, running: bool, wire: Wire) -> Body
-    ensures { λ r. ⌜ r ≡ withWire running (wire .streams) (wire .claims) body ⌝ }
+fn with_board(body: Body, running: bool, board: Board) -> Body
+    ensures { λ r. ⌜ r ≡ withBoard running (board .streams) (board .claims) body ⌝ }
 {
-    let streams = wire.streams;
-    let claims = wire.claims;
+    let streams = board.streams;
+    let claims = board.claims;
     let mut core = body.core;
     core.streams = streams;
     core.claims = claims;
@@ -73,17 +73,17 @@ fn with_wire(body: Body, running: bool, wire: Wire) -> Body
 }
 
 // What a step at a row left, put into the body.
-fn with_row(body: Body, number: u8, row: Row) -> Moved
-    requires { ⌜ (1 ≤ number) × (number ≤ mostNodes) ⌝ }
-    ensures { λ r. ⌜ r ≡ rowMoved body number row ⌝ }
+fn with_row(body: Body, node: u8, row: Row) -> Moved
+    requires { ⌜ (1 ≤ node) × (node ≤ mostNodes) ⌝ }
+    ensures { λ r. ⌜ r ≡ rowMoved body node row ⌝ }
 {
-    let at = (number - 1) as usize;
+    let at = (node - 1) as usize;
     let stream = row.stream;
     let claims = row.claims;
     let entry = row.entry;
     let term = entry.term;
     let mut core = body.core;
-    core.nodes[at].says = row.says;
+    core.controllers[at].says = row.says;
     core.streams[at] = stream;
     core.claims = claims;
     let mut next = body;
@@ -97,97 +97,97 @@ fn with_row(body: Body, number: u8, row: Row) -> Moved
 }
 
 // A step at a node and its stream. The history holds `writes`.
-fn at_row(body: Body, writes: u16, kind: u8, number: u8) -> Moved
-    requires { ⌜ Ready body × (atRow (askOf body kind number) ≡ true) ⌝ }
-    ensures { λ r. ⌜ ((history : List S.Write) → length history ≡ writes → Leaves number history (ofKind (kindOf kind) number (stateOf body history)) r) ⌝ }
+fn at_row(body: Body, writes: u16, kind: u8, node: u8) -> Moved
+    requires { ⌜ Ready body × (atRow (askOf body kind node) ≡ true) ⌝ }
+    ensures { λ r. ⌜ ((history : List S.Write) → length history ≡ writes → Leaves node history (ofKind (kindOf kind) node (stateOf body history)) r) ⌝ }
 {
     let ask = Ask {
         count: body.count,
         running: body.running,
         kind: kind,
-        number: number,
+        node: node,
     };
-    let at = (number - 1) as usize;
+    let at = (node - 1) as usize;
     let core = body.core;
-    let node = core.nodes[at];
+    let controller = core.controllers[at];
     let stream = core.streams[at];
     let claims = core.claims;
-    let code = turns::row_code(ask, writes, node, stream, claims);
+    let code = turns::row_code(ask, writes, controller, stream, claims);
     if code == parts::DONE {
-        if kind == turns::LEARN {
-            let next = nodes::learn(node);
-            return plain(parts::DONE, with_node(body, number, next));
+        if kind == parts::LEARN {
+            let next = nodes::learn(controller);
+            return plain(parts::DONE, with_controller(body, node, next));
         }
-        let row = turns::row_after(ask, node, stream, claims);
-        return with_row(body, number, row);
+        let row = turns::row_after(ask, controller, stream, claims);
+        return with_row(body, node, row);
     }
     plain(code, body)
 }
 
 // A step of the service.
-fn at_desk(body: Body, kind: u8, number: u8) -> Moved
-    requires { ⌜ Ready body × (atDesk (askOf body kind number) ≡ true) ⌝ }
-    ensures { λ r. ⌜ ((history : List S.Write) → Leaves number history (ofKind (kindOf kind) number (stateOf body history)) r) ⌝ }
+fn at_desk(body: Body, kind: u8, node: u8) -> Moved
+    requires { ⌜ Ready body × (atDesk (askOf body kind node) ≡ true) ⌝ }
+    ensures { λ r. ⌜ ((history : List S.Write) → Leaves node history (ofKind (kindOf kind) node (stateOf body history)) r) ⌝ }
 {
     let ask = Ask {
         count: body.count,
         running: body.running,
         kind: kind,
-        number: number,
+        node: node,
     };
     let core = body.core;
     let service = core.service;
-    let nodes = core.nodes;
-    let code = turns::desk_code(ask, service, nodes);
+    let controllers = core.controllers;
+    let code = turns::desk_code(ask, service, controllers);
     if code == parts::DONE {
         let next = turns::service_after(ask, service);
         if turns::posts(ask, service) {
-            let told = service::post(body.count, nodes, next);
-            return plain(parts::DONE, with_desk(body, next, told));
+            let heard = service::post(body.count, controllers, next);
+            return plain(parts::DONE, with_desk(body, next, heard));
         }
-        return plain(parts::DONE, with_desk(body, next, nodes));
+        return plain(parts::DONE, with_desk(body, next, controllers));
     }
     plain(code, body)
 }
 
 // A step of the switch and all streams, or one that nothing calls for.
-fn at_wire(body: Body, kind: u8, number: u8) -> Moved
-    requires { ⌜ Ready body × (atRow (askOf body kind number) ≡ false) × (atDesk (askOf body kind number) ≡ false) ⌝ }
-    ensures { λ r. ⌜ ((history : List S.Write) → Leaves number history (ofKind (kindOf kind) number (stateOf body history)) r) ⌝ }
+fn at_board(body: Body, kind: u8, node: u8) -> Moved
+    requires { ⌜ Ready body × (atRow (askOf body kind node) ≡ false) × (atDesk (askOf body kind node) ≡ false) ⌝ }
+    ensures { λ r. ⌜ ((history : List S.Write) → Leaves node history (ofKind (kindOf kind) node (stateOf body history)) r) ⌝ }
 {
     let ask = Ask {
         count: body.count,
         running: body.running,
         kind: kind,
-        number: number,
+        node: node,
     };
     let core = body.core;
     let streams = core.streams;
     let claims = core.claims;
-    let code = turns::wire_code(ask, streams, claims);
+    let code = turns::board_code(ask, streams, claims);
     if code == parts::DONE {
-        let wire = turns::wire_after(ask, streams, claims);
-        return plain(parts::DONE, with_wire(body, asks::runs_after(ask), wire));
+        let board = turns::board_after(ask, streams, claims);
+        return plain(parts::DONE, with_board(body, asks::runs_after(ask), board));
     }
     plain(code, body)
 }
 
 // A step of a state in range, which it does not test: answers 0 and 2 to 7. The history holds `writes`.
-pub fn advance(body: Body, writes: u16, kind: u8, number: u8) -> Moved
+pub fn advance(body: Body, writes: u16, kind: u8, node: u8) -> Moved
     requires { ⌜ Ready body ⌝ }
-    ensures { λ r. ⌜ ((history : List S.Write) → length history ≡ writes → Leaves number history (ofKind (kindOf kind) number (stateOf body history)) r) ⌝ }
+    ensures { λ r. ⌜ ((history : List S.Write) → length history ≡ writes → Leaves node history (ofKind (kindOf kind) node (stateOf body history)) r) ⌝ }
 {
     let ask = Ask {
         count: body.count,
         running: body.running,
         kind: kind,
-        number: number,
+        node: node,
     };
     if asks::at_row(ask) {
-        return at_row(body, writes, kind, number);
+        return at_row(body, writes, kind, node);
     }
     if asks::at_desk(ask) {
-        return at_desk(body, kind, number);
+        return at_desk(body, kind, node);
     }
-    at_wire(body, kind, number)
+    at_board(body, kind, node)
 }

@@ -10,13 +10,13 @@ use denote.Struct.Declared.{row, field}
 use Rattle.laws.specs.All.{All}
 use Rattle.parts.proofs.Mastership as M
 use Rattle.parts.specs.declared.Mastership.{Mastership}
-use Rattle.state.proofs.Node as N
+use Rattle.state.proofs.Controller as N
 use Rattle.state.proofs.Stream as L
 use Rattle.state.proofs.State as Whole
-use Rattle.state.specs.declared.Node.{Node}
+use Rattle.state.specs.declared.Controller.{Controller}
 use Rattle.state.specs.declared.Stream.{Stream}
 use Rattle.state.specs.declared.State.{State}
-use Rattle.bridge.specs.Sized.{SizedMastership, SizedNode, SizedStream, Sized}
+use Rattle.bridge.specs.Sized.{SizedMastership, SizedController, SizedStream, Sized}
 
 -- What each element of an array is known to be.
 each-known : {X : Type 0} (F : Field) (into : X → F .row .Denot) (P : X → Type 0) → ((x : X) (vs : List Val) → shadow (F .row .own (into x) vs) → P x)
@@ -28,8 +28,8 @@ each-known F into P f (x ∷ l) (u ∷ us) h = (f x (u ∷ []) (h .0), each-know
 mastership-sized : (m : Mastership) (vs : List Val) → Is (row M.the-type) m vs → SizedMastership m
 mastership-sized m vs h = simp length-map at (h .1 .1 .1 .1 .0 .1 .0 .1)
 
-node-sized : (r : Node) (vs : List Val) → Is (row N.the-type) r vs → SizedNode r
-node-sized r vs h = let items = h .1 .1 .0 .1 .1 .0 in record {
+controller-sized : (r : Controller) (vs : List Val) → Is (row N.the-type) r vs → SizedController r
+controller-sized r vs h = let items = h .1 .1 .0 .1 .1 .0 in record {
   events = simp length-map at (items .1 .0 .1);
   items = each-known (field M.the-type) (M.the-type .to) SizedMastership mastership-sized (r .events .items) (items .0) (items .1 .1);
   learned = mastership-sized (r .learned) (h .0 .1 .0) (h .1 .1 .1 .0);
@@ -45,13 +45,13 @@ stream-sized r vs h = record {
 pub sized : (s : State) (vs : List Val) → Is (row Whole.the-type) s vs → Sized s
 sized s vs h =
     let core = h .1 .1 .1 .1 .0 .1 .1 in
-    let nodes = core .1 .0 in
+    let controllers = core .1 .0 in
     let streams = core .1 .1 .0 in
     let claims = core .1 .1 .1 .0 .1 .1 in
     let history = h .1 .1 .1 .1 .1 .0 .1 .1 in record {
       service = mastership-sized (s .core .service) _ (core .0);
-      nodes = simp length-map at (nodes .1 .0 .1);
-      node-rows = each-known (field N.the-type) (N.the-type .to) SizedNode node-sized (s .core .nodes) (nodes .0) (nodes .1 .1);
+      controllers = simp length-map at (controllers .1 .0 .1);
+      controller-rows = each-known (field N.the-type) (N.the-type .to) SizedController controller-sized (s .core .controllers) (controllers .0) (controllers .1 .1);
       streams = simp length-map at (streams .1 .0 .1);
       stream-rows = each-known (field L.the-type) (L.the-type .to) SizedStream stream-sized (s .core .streams) (streams .0) (streams .1 .1);
       ids = simp length-map at (claims .0 .1 .0 .1);

@@ -9,35 +9,35 @@ use lib.ListN.{length, getD}
 use Rattle.rules.specs.Limits.{mostNodes, queueLength, historyLength}
 use Rattle.rules.specs.State as S
 use Rattle.rules.specs.Range.{inRange}
-use Rattle.laws.specs.InRange.{WireFits, InRange}
+use Rattle.laws.specs.InRange.{BoardFits, InRange}
 use Rattle.laws.specs.RangeTest.{range-sound}
 use Rattle.seqs.specs.Arrays.{column, table}
 use Rattle.seqs.specs.Padded.{held-padded}
 use Rattle.seqs.specs.Tables.{table-column}
 use Rattle.parts.specs.Hold.{holdMastership, packMastership, noMastership, holdRequest, packRequest, noRequest, holdResponse, packResponse, noResponse}
 use Rattle.parts.specs.Ordered.{mastership-back, request-back, response-back}
-use Rattle.state.specs.Hold.{eventsAt, learnedAt, saysAt, openAt, sentAt, requestsAt, responsesAt, idAt, termAt, nodeRow, streamRow, idRow, termRow, packNodes, packStreams, packClaims, packCore, packHistory, packWrite, noWrite, holdWrite, holdWire, holdDesk, holdCore, holdHistory, hold, represent}
+use Rattle.state.specs.Hold.{eventsAt, learnedAt, saysAt, openAt, sentAt, requestsAt, responsesAt, idAt, termAt, controllerRow, streamRow, idRow, termRow, packControllers, packStreams, packClaims, packCore, packHistory, packWrite, noWrite, holdWrite, holdBoard, holdDesk, holdCore, holdHistory, hold, represent}
 
 -- A column as long as there are nodes, of rows that were made of it.
 column-back : {R B : Type 0} (g : R → B) (f : ℕ → R) (l : List B) (d : B) (n : ℕ) → n ≤ mostNodes → length l ≡ n → ((i : ℕ) → g (f i) ≡ getD l i d) → column g n (table mostNodes f) ≡ l
 column-back g f l d n few e h = ap (λ k. column g k (table mostNodes f)) (sym e) ∙ table-column g mostNodes f l d (let z : length l ≡ n = e in omega arith) h
 
 module _ (n : ℕ) (few : n ≤ mostNodes) (events : List (List S.Mastership)) (learned : List S.Mastership) (says : List Bool) where
-  pub events-back : length events ≡ n → column eventsAt n (packNodes events learned says) ≡ events
-  unfolding packNodes
-  events-back e = column-back eventsAt (nodeRow events learned says) events [] n few e (λ i. held-padded noMastership packMastership holdMastership mastership-back queueLength (getD events i []))
+  pub events-back : length events ≡ n → column eventsAt n (packControllers events learned says) ≡ events
+  unfolding packControllers
+  events-back e = column-back eventsAt (controllerRow events learned says) events [] n few e (λ i. held-padded noMastership packMastership holdMastership mastership-back queueLength (getD events i []))
 
-  pub learned-back : length learned ≡ n → column learnedAt n (packNodes events learned says) ≡ learned
-  unfolding packNodes
-  learned-back e = column-back learnedAt (nodeRow events learned says) learned S.blank n few e (λ i. mastership-back (getD learned i S.blank))
+  pub learned-back : length learned ≡ n → column learnedAt n (packControllers events learned says) ≡ learned
+  unfolding packControllers
+  learned-back e = column-back learnedAt (controllerRow events learned says) learned S.blank n few e (λ i. mastership-back (getD learned i S.blank))
 
-  pub says-back : length says ≡ n → column saysAt n (packNodes events learned says) ≡ says
-  unfolding packNodes
-  says-back e = column-back saysAt (nodeRow events learned says) says false n few e (λ i. refl)
+  pub says-back : length says ≡ n → column saysAt n (packControllers events learned says) ≡ says
+  unfolding packControllers
+  says-back e = column-back saysAt (controllerRow events learned says) says false n few e (λ i. refl)
 
-pub wire-back : (n : ℕ) (running : Bool) (w : S.Wire) → n ≤ mostNodes → WireFits n running w → holdWire n (packStreams w) (packClaims w) ≡ w
-unfolding holdWire packStreams packClaims
-wire-back n running w few k = λ i. record {
+pub board-back : (n : ℕ) (running : Bool) (w : S.Board) → n ≤ mostNodes → BoardFits n running w → holdBoard n (packStreams w) (packClaims w) ≡ w
+unfolding holdBoard packStreams packClaims
+board-back n running w few k = λ i. record {
   opens = column-back openAt (streamRow w) (w .opens) false n few (k .opens-size) (λ j. refl) i;
   sent = column-back sentAt (streamRow w) (w .sent) 0 n few (k .sent-size) (λ j. refl) i;
   requests = column-back requestsAt (streamRow w) (w .requests) [] n few (k .requests-size) (λ j. held-padded noRequest packRequest holdRequest request-back queueLength (getD (w .requests) j [])) i;
@@ -61,7 +61,7 @@ back t r =
         desk = record { service = mastership-back (c .desk .service) i; events = events-back n few (c .desk .events) (c .learned) (c .says) (k .desk .size) i };
         learned = learned-back n few (c .desk .events) (c .learned) (c .says) (k .learned-size) i;
         says = says-back n few (c .desk .events) (c .learned) (c .says) (k .says-size) i;
-        wire = wire-back n (t .running) (c .wire) few (k .wire) i;
+        board = board-back n (t .running) (c .board) few (k .board) i;
       };
     }
 

@@ -6,7 +6,7 @@ use Prim.Native.Nat.{ℕ, _≤_}
 use native.Mathlib.Omega.{arith}
 use lib.Dec.{T}
 use lib.ListN.{length, getD}
-use Rattle.rules.specs.Limits.{mostNodes}
+use Rattle.rules.specs.Limits.{mostNodes, mostBackups}
 use Rattle.rules.specs.State as S
 use Rattle.rules.specs.Range.{inRange}
 use Rattle.laws.specs.InRange.{QueueFits, MastershipFits, ServiceFits, masterless, ruled, LearnedFits, unlearned, knows, CoreFits}
@@ -15,21 +15,21 @@ use Rattle.laws.specs.Lists.{all-getD, queue-none}
 use Rattle.laws.specs.Ids.{fewer-backups}
 use Rattle.seqs.specs.Tables.{table-get}
 use Rattle.parts.specs.Ordered.{OrderedMastership, ordered-mastership, ordered-events, ordered-requests, ordered-responses}
-use Rattle.state.specs.Hold.{nodeRow, streamRow, packNodes, packStreams, packClaims, packCore, represent}
-use Rattle.state.specs.Order.{OrderedNodes, OrderedWire, pastNode, pastStream}
-use Rattle.bridge.specs.Held.{events-back, learned-back, says-back, wire-back}
+use Rattle.state.specs.Hold.{controllerRow, streamRow, packControllers, packStreams, packClaims, packCore, represent}
+use Rattle.state.specs.Order.{OrderedControllers, OrderedBoard, pastController, pastStream}
+use Rattle.bridge.specs.Held.{events-back, learned-back, says-back, board-back}
 
 -- ---- there is a place for every backup
 
 module _ (count : ℕ) (few : count ≤ mostNodes) (m : S.Mastership) where
-  pub event-short : MastershipFits count m → length (m .backups) ≤ 7
+  pub event-short : MastershipFits count m → length (m .backups) ≤ mostBackups
   event-short k = let f = fewer-backups count m k in omega arith
 
-  pub service-short : ServiceFits count m → length (m .backups) ≤ 7
+  pub service-short : ServiceFits count m → length (m .backups) ≤ mostBackups
   service-short (masterless a b c) = rw b (omega arith)
   service-short (ruled k) = event-short k
 
-  pub learned-short : LearnedFits count m → length (m .backups) ≤ 7
+  pub learned-short : LearnedFits count m → length (m .backups) ≤ mostBackups
   learned-short (unlearned e) = rw e (omega arith)
   learned-short (knows k) = event-short k
 
@@ -45,39 +45,39 @@ module _ (n : ℕ) (running : Bool) (c : S.Core) (few : n ≤ mostNodes) (k : Co
   pub learned-at : (i : ℕ) → LearnedFits n (getD (c .learned) i S.blank)
   learned-at i = all-getD (LearnedFits n) (c .learned) i S.blank (unlearned refl) (k .learned)
 
-  nodes-ordered : OrderedNodes n (packNodes events (c .learned) (c .says))
-  unfolding packNodes
-  nodes-ordered = record {
+  controllers-ordered : OrderedControllers n (packControllers events (c .learned) (c .says))
+  unfolding packControllers
+  controllers-ordered = record {
     few = few;
-    rows = λ i h. rw (table-get mostNodes (nodeRow events (c .learned) (c .says)) i pastNode (omega arith)) (record {
+    rows = λ i h. rw (table-get mostNodes (controllerRow events (c .learned) (c .says)) i pastController (omega arith)) (record {
       events = ordered-events (getD events i []) (events-at i .short);
       learned = ordered-mastership (getD (c .learned) i S.blank) (learned-short n few (getD (c .learned) i S.blank) (learned-at i));
     });
-    same = λ i. packNodes (events-back n few events (c .learned) (c .says) (k .desk .size) i) (learned-back n few events (c .learned) (c .says) (k .learned-size) i) (says-back n few events (c .learned) (c .says) (k .says-size) i);
+    same = λ i. packControllers (events-back n few events (c .learned) (c .says) (k .desk .size) i) (learned-back n few events (c .learned) (c .says) (k .learned-size) i) (says-back n few events (c .learned) (c .says) (k .says-size) i);
   }
 
-  wire-ordered : OrderedWire n (packStreams (c .wire)) (packClaims (c .wire))
+  board-ordered : OrderedBoard n (packStreams (c .board)) (packClaims (c .board))
   unfolding packStreams
-  wire-ordered = let w = c .wire in record {
+  board-ordered = let w = c .board in record {
     few = few;
     rows = λ i h. rw (table-get mostNodes (streamRow w) i pastStream (omega arith)) (record {
-      requests = ordered-requests (getD (w .requests) i []) (k .wire .streams i .requests-fit .short);
-      responses = ordered-responses (getD (w .responses) i []) (k .wire .streams i .responses-fit .short);
+      requests = ordered-requests (getD (w .requests) i []) (k .board .streams i .requests-fit .short);
+      responses = ordered-responses (getD (w .responses) i []) (k .board .streams i .responses-fit .short);
     });
-    streams-same = ap packStreams (wire-back n running w few (k .wire));
-    claims-same = ap packClaims (wire-back n running w few (k .wire));
+    streams-same = ap packStreams (board-back n running w few (k .board));
+    claims-same = ap packClaims (board-back n running w few (k .board));
   }
 
 -- ---- the state
 
 module _ (t : S.State) (h : T (inRange t)) where
-  pub ordered-nodes : OrderedNodes (t .count) (represent t .core .nodes)
+  pub ordered-controllers : OrderedControllers (t .count) (represent t .core .controllers)
   unfolding represent packCore
-  ordered-nodes = let r = range-sound t h in nodes-ordered (t .count) (t .running) (t .core) (r .count .upper) (r .core)
+  ordered-controllers = let r = range-sound t h in controllers-ordered (t .count) (t .running) (t .core) (r .count .upper) (r .core)
 
-  pub ordered-wire : OrderedWire (t .count) (represent t .core .streams) (represent t .core .claims)
+  pub ordered-board : OrderedBoard (t .count) (represent t .core .streams) (represent t .core .claims)
   unfolding represent packCore
-  ordered-wire = let r = range-sound t h in wire-ordered (t .count) (t .running) (t .core) (r .count .upper) (r .core)
+  ordered-board = let r = range-sound t h in board-ordered (t .count) (t .running) (t .core) (r .count .upper) (r .core)
 
   pub ordered-service : OrderedMastership (represent t .core .service)
   unfolding represent packCore

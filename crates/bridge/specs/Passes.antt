@@ -6,7 +6,7 @@ use Prim.Native.Nat.{ℕ, _≤_}
 use native.Mathlib.Omega.{arith}
 use lib.Dec.{T}
 use lib.ListN.{length, getD, take, drop, List·getD-eq-default}
-use Rattle.rules.specs.Limits.{mostNodes, queueLength, historyLength}
+use Rattle.rules.specs.Limits.{mostNodes, mostBackups, queueLength, historyLength}
 use Rattle.rules.specs.State as S
 use Rattle.rules.specs.Range.{all, inRange}
 use Rattle.laws.specs.All.{All}
@@ -16,8 +16,8 @@ use Rattle.laws.specs.Tests.{_&_, as-is, is-yes, is-le, is-all}
 use Rattle.laws.specs.Lists.{all-each}
 use Rattle.seqs.specs.Arrays.{padded, table}
 use Rattle.parts.specs.Hold.{asIs, packMastership, noMastership, packMessage, packRequest, noRequest, packStatus, packResponse, noResponse}
-use Rattle.state.specs.Hold.{packNode, packStream, nodeRow, streamRow, idRow, termRow, packNodes, packStreams, packClaims, packCore, packHistory, packWrite, noWrite, hold, represent}
-use Rattle.state.specs.Tidy.{isZero, noMessage, noStatus, blankMastership, blankRequest, blankResponse, tidyMastership, tidyRequest, tidyResponse, tidyPlaces, tidyNode, tidyStream, blankNode, blankStream, blankId, blankTerm, tidyCore, anyWrite, blankWrite, tidyHistory, stateFits}
+use Rattle.state.specs.Hold.{packController, packStream, controllerRow, streamRow, idRow, termRow, packControllers, packStreams, packClaims, packCore, packHistory, packWrite, noWrite, hold, represent}
+use Rattle.state.specs.Tidy.{isZero, noMessage, noStatus, blankMastership, blankRequest, blankResponse, tidyMastership, tidyRequest, tidyResponse, tidyPlaces, tidyController, tidyStream, blankController, blankStream, blankId, blankTerm, tidyCore, anyWrite, blankWrite, tidyHistory, stateFits}
 use Rattle.bridge.specs.Rows.{taken-table, dropped-table, taken-padded, dropped-padded}
 use Rattle.bridge.specs.Held.{hold-represent}
 use Rattle.bridge.specs.InOrder.{event-short, service-short, learned-short, events-at, learned-at}
@@ -38,10 +38,10 @@ module _ {A B : Type 0} (blank : B) (rep : A → B) (tidy isBlank : B → Bool) 
 
 -- ---- elements
 
-mastership-passes : (m : S.Mastership) → length (m .backups) ≤ 7 → T (tidyMastership (packMastership m))
+mastership-passes : (m : S.Mastership) → length (m .backups) ≤ mostBackups → T (tidyMastership (packMastership m))
 unfolding tidyMastership
-mastership-passes m h = let l = m .backups in (is-le (length l) 7 & as-is (all isZero (drop (length l) (padded 0 asIs 7 l)))) .from
-    (h, from-all isZero (drop (length l) (padded 0 asIs 7 l)) (dropped-padded 0 asIs (λ x. T (isZero x)) 7 l tt))
+mastership-passes m h = let l = m .backups in (is-le (length l) mostBackups & as-is (all isZero (drop (length l) (padded 0 asIs mostBackups l)))) .from
+    (h, from-all isZero (drop (length l) (padded 0 asIs mostBackups l)) (dropped-padded 0 asIs (λ x. T (isZero x)) mostBackups l tt))
 
 message-passes : (m : S.Message) → T (not (noMessage (packMessage m)))
 unfolding noMessage
@@ -84,18 +84,18 @@ no-write = tt
 
 -- ---- rows
 
-no-node : T (blankNode (packNode [] S.blank false))
-unfolding blankNode blankMastership all
-no-node = tt
+no-controller : T (blankController (packController [] S.blank false))
+unfolding blankController blankMastership all
+no-controller = tt
 
 no-stream : T (blankStream (packStream false 0 [] []))
 unfolding blankStream blankRequest blankResponse noMessage noStatus all
 no-stream = tt
 
 module _ (n : ℕ) (running : Bool) (c : S.Core) (few : n ≤ mostNodes) (k : CoreFits n running c) where
-  node-passes : (i : ℕ) → T (tidyNode (nodeRow (c .desk .events) (c .learned) (c .says) i))
-  unfolding tidyNode
-  node-passes i =
+  controller-passes : (i : ℕ) → T (tidyController (controllerRow (c .desk .events) (c .learned) (c .says) i))
+  unfolding tidyController
+  controller-passes i =
       let q = getD (c .desk .events) i [] in
       let m = getD (c .learned) i S.blank in
       let h = events-at n running c few k i in
@@ -104,12 +104,12 @@ module _ (n : ℕ) (running : Bool) (c : S.Core) (few : n ≤ mostNodes) (k : Co
         mastership-passes m (learned-short n few m (learned-at n running c few k i)),
       )
 
-  stream-passes : (i : ℕ) → T (tidyStream (streamRow (c .wire) i))
+  stream-passes : (i : ℕ) → T (tidyStream (streamRow (c .board) i))
   unfolding tidyStream
   stream-passes i =
-      let q = getD (c .wire .requests) i [] in
-      let a = getD (c .wire .responses) i [] in
-      let h = k .wire .streams i in
+      let q = getD (c .board .requests) i [] in
+      let a = getD (c .board .responses) i [] in
+      let h = k .board .streams i in
       (as-is (tidyPlaces queueLength tidyRequest blankRequest (padded noRequest packRequest queueLength q) (length q)) & as-is (tidyPlaces queueLength tidyResponse blankResponse (padded noResponse packResponse queueLength a) (length a))) .from (
         places-pass noRequest packRequest tidyRequest blankRequest no-request queueLength q (h .requests-fit .short) (every request-passes q),
         places-pass noResponse packResponse tidyResponse blankResponse no-response queueLength a (h .responses-fit .short) (every response-passes a),
@@ -118,22 +118,22 @@ module _ (n : ℕ) (running : Bool) (c : S.Core) (few : n ≤ mostNodes) (k : Co
   past : {A : Type 0} (l : List A) (d : A) (i : ℕ) → length l ≡ n → n ≤ i → getD l i d ≡ d
   past l d i e h = List·getD-eq-default l d (let z : length l ≡ n = e in omega arith)
 
-  node-blank : (i : ℕ) → n ≤ i → T (blankNode (nodeRow (c .desk .events) (c .learned) (c .says) i))
-  node-blank i h = rw (past (c .desk .events) [] i (k .desk .size) h, past (c .learned) S.blank i (k .learned-size) h, past (c .says) false i (k .says-size) h) no-node
+  controller-blank : (i : ℕ) → n ≤ i → T (blankController (controllerRow (c .desk .events) (c .learned) (c .says) i))
+  controller-blank i h = rw (past (c .desk .events) [] i (k .desk .size) h, past (c .learned) S.blank i (k .learned-size) h, past (c .says) false i (k .says-size) h) no-controller
 
-  stream-blank : (i : ℕ) → n ≤ i → T (blankStream (streamRow (c .wire) i))
-  stream-blank i h = let w = c .wire in let z = k .wire in
+  stream-blank : (i : ℕ) → n ≤ i → T (blankStream (streamRow (c .board) i))
+  stream-blank i h = let w = c .board in let z = k .board in
       rw (past (w .opens) false i (z .opens-size) h, past (w .sent) 0 i (z .sent-size) h, past (w .requests) [] i (z .requests-size) h, past (w .responses) [] i (z .responses-size) h) no-stream
 
   core-passes : T (tidyCore n (packCore c))
-  unfolding tidyCore packCore packNodes packStreams packClaims
+  unfolding tidyCore packCore packControllers packStreams packClaims
   core-passes =
-      let w = c .wire in
-      let nodes = table mostNodes (nodeRow (c .desk .events) (c .learned) (c .says)) in
+      let w = c .board in
+      let controllers = table mostNodes (controllerRow (c .desk .events) (c .learned) (c .says)) in
       let streams = table mostNodes (streamRow w) in
       let ids = table mostNodes (idRow (w .ids)) in
       let terms = table mostNodes (termRow (w .terms)) in
-      (as-is (tidyMastership (packMastership (c .desk .service))) & as-is (all tidyNode (take n nodes)) & as-is (all blankNode (drop n nodes))
+      (as-is (tidyMastership (packMastership (c .desk .service))) & as-is (all tidyController (take n controllers)) & as-is (all blankController (drop n controllers))
       & as-is (all tidyStream (take n streams)) & as-is (all blankStream (drop n streams)) & as-is (all blankId (drop n ids)) & as-is (all blankTerm (drop n terms))) .from (
         (
           (
@@ -141,17 +141,17 @@ module _ (n : ℕ) (running : Bool) (c : S.Core) (few : n ≤ mostNodes) (k : Co
               (
                 (
                   mastership-passes (c .desk .service) (service-short n few (c .desk .service) (k .desk .service)),
-                  from-all tidyNode (take n nodes) (taken-table (λ r. T (tidyNode r)) n mostNodes (nodeRow (c .desk .events) (c .learned) (c .says)) (λ i h. node-passes i)),
+                  from-all tidyController (take n controllers) (taken-table (λ r. T (tidyController r)) n mostNodes (controllerRow (c .desk .events) (c .learned) (c .says)) (λ i h. controller-passes i)),
                 ),
-                from-all blankNode (drop n nodes) (dropped-table (λ r. T (blankNode r)) n mostNodes (nodeRow (c .desk .events) (c .learned) (c .says)) node-blank),
+                from-all blankController (drop n controllers) (dropped-table (λ r. T (blankController r)) n mostNodes (controllerRow (c .desk .events) (c .learned) (c .says)) controller-blank),
               ),
               from-all tidyStream (take n streams) (taken-table (λ r. T (tidyStream r)) n mostNodes (streamRow w) (λ i h. stream-passes i)),
             ),
             from-all blankStream (drop n streams) (dropped-table (λ r. T (blankStream r)) n mostNodes (streamRow w) stream-blank),
           ),
-          from-all blankId (drop n ids) (dropped-table (λ r. T (blankId r)) n mostNodes (idRow (w .ids)) (λ i h. rw (past (w .ids) 0 i (k .wire .ids-size) h) tt)),
+          from-all blankId (drop n ids) (dropped-table (λ r. T (blankId r)) n mostNodes (idRow (w .ids)) (λ i h. rw (past (w .ids) 0 i (k .board .ids-size) h) tt)),
         ),
-        from-all blankTerm (drop n terms) (dropped-table (λ r. T (blankTerm r)) n mostNodes (termRow (w .terms)) (λ i h. rw (past (w .terms) 0 i (k .wire .terms-size) h) tt)),
+        from-all blankTerm (drop n terms) (dropped-table (λ r. T (blankTerm r)) n mostNodes (termRow (w .terms)) (λ i h. rw (past (w .terms) 0 i (k .board .terms-size) h) tt)),
       )
 
 -- ---- the state

@@ -7,7 +7,7 @@ use native.Mathlib.Omega.{arith}
 use lib.Dec.{T}
 use lib.ListN.{length, take, drop, length-map}
 use lib.Seq.{length-take-le}
-use Rattle.rules.specs.Limits.{mostNodes, queueLength, historyLength}
+use Rattle.rules.specs.Limits.{mostNodes, mostBackups, queueLength, historyLength}
 use Rattle.rules.specs.Range.{all, inRange}
 use Rattle.rules.specs.State as S
 use Rattle.laws.specs.All.{All}
@@ -25,16 +25,16 @@ use Rattle.parts.specs.declared.Response.{Response}
 use Rattle.parts.specs.declared.ElectionId.{ElectionId}
 use Rattle.parts.specs.declared.Term.{Term}
 use Rattle.parts.specs.Hold.{holdMastership, packMastership, noMastership, asIs, holdMessage, packMessage, holdStatus, packStatus, holdRequest, packRequest, noRequest, holdResponse, packResponse, noResponse}
-use Rattle.state.specs.declared.Node.{Node}
+use Rattle.state.specs.declared.Controller.{Controller}
 use Rattle.state.specs.declared.Stream.{Stream}
 use Rattle.state.specs.declared.Claims.{Claims}
 use Rattle.state.specs.declared.Write.{Write}
 use Rattle.state.specs.declared.History.{History}
 use Rattle.state.specs.declared.State.{State}
-use Rattle.state.specs.Hold.{eventsAt, learnedAt, saysAt, openAt, sentAt, requestsAt, responsesAt, idAt, termAt, packNode, packStream, nodeRow, streamRow, idRow, termRow, packNodes, packStreams, packClaims, packCore, packHistory, packWrite, noWrite, holdWrite, holdWire, holdDesk, holdCore, holdHistory, hold, represent}
-use Rattle.state.specs.Order.{pastNode, pastStream}
-use Rattle.state.specs.Tidy.{isZero, noMessage, noStatus, blankMastership, blankRequest, blankResponse, tidyMastership, tidyRequest, tidyResponse, tidyPlaces, tidyNode, tidyStream, blankNode, blankStream, blankId, blankTerm, tidyCore, anyWrite, blankWrite, tidyHistory, stateFits}
-use Rattle.bridge.specs.Sized.{SizedMastership, SizedNode, SizedStream, Sized}
+use Rattle.state.specs.Hold.{eventsAt, learnedAt, saysAt, openAt, sentAt, requestsAt, responsesAt, idAt, termAt, packController, packStream, controllerRow, streamRow, idRow, termRow, packControllers, packStreams, packClaims, packCore, packHistory, packWrite, noWrite, holdWrite, holdBoard, holdDesk, holdCore, holdHistory, hold, represent}
+use Rattle.state.specs.Order.{pastController, pastStream}
+use Rattle.state.specs.Tidy.{isZero, noMessage, noStatus, blankMastership, blankRequest, blankResponse, tidyMastership, tidyRequest, tidyResponse, tidyPlaces, tidyController, tidyStream, blankController, blankStream, blankId, blankTerm, tidyCore, anyWrite, blankWrite, tidyHistory, stateFits}
+use Rattle.bridge.specs.Sized.{SizedMastership, SizedController, SizedStream, Sized}
 use Rattle.bridge.specs.Rows.{Any, all-any, all-take, all-drop, all-known, column-past, table-same, padded-same}
 
 -- ---- the places of any array
@@ -53,14 +53,14 @@ record Element (A B : Type 0) : Type 1 where
 -- The places are what they hold, written.
 record Places {A B : Type 0} (e : Element A B) (size : ℕ) (l : List B) (len : ℕ) : Type 0 where
   items : padded (e .blank) (e .rep) size (map (e .hold) (take len l)) ≡ l
-  count : length (map (e .hold) (take len l)) ≡ len
+  held : length (map (e .hold) (take len l)) ≡ len
 
 module _ {A B : Type 0} (e : Element A B) (size : ℕ) (l : List B) (sized : length l ≡ size) (known : All (e .Known) l) where
   places-same : (len : ℕ) → T (tidyPlaces size (e .tidy) (e .isBlank) l len) → Places e size l len
   unfolding tidyPlaces
   places-same len t = let h = (is-le len size & as-is (all (e .tidy) (take len l)) & as-is (all (e .isBlank) (drop len l))) .to t in let z : len ≤ size = h .0 .0 in record {
     items = padded-same (e .blank) (e .rep) (e .hold) size len l sized (all-known (e .tidy) (e .same) (take len l) (all-take (e .Known) len l known) (h .0 .1)) (all-known (e .isBlank) (e .none) (drop len l) (all-drop (e .Known) len l known) (h .1));
-    count = length-map (take len l) (e .hold) ∙ length-take-le len l (omega arith);
+    held = length-map (take len l) (e .hold) ∙ length-take-le len l (omega arith);
   }
 
   -- All places are blank.
@@ -82,20 +82,20 @@ all-zero l t = is-all (λ x. is-eq x 0) l .to t
 
 pub mastership-same : (m : Mastership) → SizedMastership m → T (tidyMastership m) → packMastership (holdMastership m) ≡ m
 unfolding tidyMastership
-mastership-same m h t = let k = (is-le (m .count) 7 & as-is (all isZero (drop (m .count) (m .backups)))) .to t in λ i. record {
+mastership-same m h t = let k = (is-le (m .len) mostBackups & as-is (all isZero (drop (m .len) (m .backups)))) .to t in λ i. record {
   term = m .term;
   master = m .master;
-  backups = (ap (padded 0 asIs 7) (sym (as-is-all (take (m .count) (m .backups)))) ∙ padded-same 0 asIs asIs 7 (m .count) (m .backups) h (all-refl (take (m .count) (m .backups))) (all-zero (drop (m .count) (m .backups)) (k .1))) i;
-  count = length-take-le (m .count) (m .backups) (let z : m .count ≤ 7 = k .0 in omega arith) i;
+  backups = (ap (padded 0 asIs mostBackups) (sym (as-is-all (take (m .len) (m .backups)))) ∙ padded-same 0 asIs asIs mostBackups (m .len) (m .backups) h (all-refl (take (m .len) (m .backups))) (all-zero (drop (m .len) (m .backups)) (k .1))) i;
+  len = length-take-le (m .len) (m .backups) (let z : m .len ≤ mostBackups = k .0 in omega arith) i;
 }
 
 pub mastership-none : (m : Mastership) → SizedMastership m → T (blankMastership m) → m ≡ noMastership
 unfolding blankMastership
-mastership-none m h t = let k = (is-eq (m .term .0) 0 & is-eq (m .master) 0 & as-is (all isZero (m .backups)) & is-eq (m .count) 0) .to t in λ i. record {
+mastership-none m h t = let k = (is-eq (m .term .0) 0 & is-eq (m .master) 0 & as-is (all isZero (m .backups)) & is-eq (m .len) 0) .to t in λ i. record {
   term = record { 0 = k .0 .0 .0 i };
   master = k .0 .0 .1 i;
-  backups = sym (padded-same 0 asIs asIs 7 0 (m .backups) h tt (all-zero (m .backups) (k .0 .1))) i;
-  count = k .1 i;
+  backups = sym (padded-same 0 asIs asIs mostBackups 0 (m .backups) h tt (all-zero (m .backups) (k .0 .1))) i;
+  len = k .1 i;
 }
 
 abbrev mastership : Element S.Mastership Mastership
@@ -192,17 +192,17 @@ response = record {
 
 -- ---- rows
 
-node-same : (r : Node) → SizedNode r → T (tidyNode r) → packNode (eventsAt r) (learnedAt r) (saysAt r) ≡ r
-unfolding tidyNode
-node-same r k t =
+controller-same : (r : Controller) → SizedController r → T (tidyController r) → packController (eventsAt r) (learnedAt r) (saysAt r) ≡ r
+unfolding tidyController
+controller-same r k t =
     let q = r .events in
     let h = (as-is (tidyPlaces queueLength tidyMastership blankMastership (q .items) (q .len)) & as-is (tidyMastership (r .learned))) .to t in
     let events = places-same mastership queueLength (q .items) (k .events) (k .items) (q .len) (h .0) in
-    λ i. record { events = record { items = events .items i; len = events .count i }; learned = mastership-same (r .learned) (k .learned) (h .1) i; says = r .says }
+    λ i. record { events = record { items = events .items i; len = events .held i }; learned = mastership-same (r .learned) (k .learned) (h .1) i; says = r .says }
 
-node-none : (r : Node) → SizedNode r → T (blankNode r) → r ≡ packNode [] S.blank false
-unfolding blankNode
-node-none r k t =
+controller-none : (r : Controller) → SizedController r → T (blankController r) → r ≡ packController [] S.blank false
+unfolding blankController
+controller-none r k t =
     let q = r .events in
     let h = (as-is (all blankMastership (q .items)) & is-eq (q .len) 0 & as-is (blankMastership (r .learned)) & is-not (r .says)) .to t in
     λ i. record {
@@ -222,8 +222,8 @@ stream-same r k t =
     λ i. record {
       opened = r .opened;
       sent = r .sent;
-      requests = record { items = requests .items i; len = requests .count i };
-      responses = record { items = responses .items i; len = responses .count i };
+      requests = record { items = requests .items i; len = requests .held i };
+      responses = record { items = responses .items i; len = responses .held i };
     }
 
 stream-none : (r : Stream) → SizedStream r → T (blankStream r) → r ≡ packStream false 0 [] []
@@ -248,29 +248,29 @@ term-none : (x : Term) → Any x → T (blankTerm x) → x ≡ record { 0 = 0 }
 term-none x k t = λ i. record { 0 = is-eq (x .0) 0 .to t i }
 
 module _ (n : ℕ) (few : n ≤ mostNodes) where
-  nodes-same : (l : List Node) → length l ≡ mostNodes → All SizedNode l → T (all tidyNode (take n l)) → T (all blankNode (drop n l))
-      → packNodes (column eventsAt n l) (column learnedAt n l) (column saysAt n l) ≡ l
-  unfolding packNodes
-  nodes-same l e k t b = let f : n ≤ length l = omega arith in
-      table-same mostNodes n (nodeRow (column eventsAt n l) (column learnedAt n l) (column saysAt n l)) l pastNode (packNode [] S.blank false) (λ r. packNode (eventsAt r) (learnedAt r) (saysAt r)) e
-      (all-known tidyNode node-same (take n l) (all-take SizedNode n l k) t)
-      (all-known blankNode node-none (drop n l) (all-drop SizedNode n l k) b)
-      (λ i h z. packNode (column-at eventsAt n i l pastNode h z) (column-at learnedAt n i l pastNode h z) (column-at saysAt n i l pastNode h z))
-      (λ i h z. packNode (column-past eventsAt n i l [] f h z) (column-past learnedAt n i l S.blank f h z) (column-past saysAt n i l false f h z))
+  controllers-same : (l : List Controller) → length l ≡ mostNodes → All SizedController l → T (all tidyController (take n l)) → T (all blankController (drop n l))
+      → packControllers (column eventsAt n l) (column learnedAt n l) (column saysAt n l) ≡ l
+  unfolding packControllers
+  controllers-same l e k t b = let f : n ≤ length l = omega arith in
+      table-same mostNodes n (controllerRow (column eventsAt n l) (column learnedAt n l) (column saysAt n l)) l pastController (packController [] S.blank false) (λ r. packController (eventsAt r) (learnedAt r) (saysAt r)) e
+      (all-known tidyController controller-same (take n l) (all-take SizedController n l k) t)
+      (all-known blankController controller-none (drop n l) (all-drop SizedController n l k) b)
+      (λ i h z. packController (column-at eventsAt n i l pastController h z) (column-at learnedAt n i l pastController h z) (column-at saysAt n i l pastController h z))
+      (λ i h z. packController (column-past eventsAt n i l [] f h z) (column-past learnedAt n i l S.blank f h z) (column-past saysAt n i l false f h z))
 
   streams-same : (l : List Stream) (claims : Claims) → length l ≡ mostNodes → All SizedStream l → T (all tidyStream (take n l)) → T (all blankStream (drop n l))
-      → packStreams (holdWire n l claims) ≡ l
-  unfolding packStreams holdWire
+      → packStreams (holdBoard n l claims) ≡ l
+  unfolding packStreams holdBoard
   streams-same l claims e k t b = let f : n ≤ length l = omega arith in
-      table-same mostNodes n (streamRow (holdWire n l claims)) l pastStream (packStream false 0 [] []) (λ r. packStream (openAt r) (sentAt r) (requestsAt r) (responsesAt r)) e
+      table-same mostNodes n (streamRow (holdBoard n l claims)) l pastStream (packStream false 0 [] []) (λ r. packStream (openAt r) (sentAt r) (requestsAt r) (responsesAt r)) e
       (all-known tidyStream stream-same (take n l) (all-take SizedStream n l k) t)
       (all-known blankStream stream-none (drop n l) (all-drop SizedStream n l k) b)
       (λ i h z. packStream (column-at openAt n i l pastStream h z) (column-at sentAt n i l pastStream h z) (column-at requestsAt n i l pastStream h z) (column-at responsesAt n i l pastStream h z))
       (λ i h z. packStream (column-past openAt n i l false f h z) (column-past sentAt n i l 0 f h z) (column-past requestsAt n i l [] f h z) (column-past responsesAt n i l [] f h z))
 
   claims-same : (l : List Stream) (c : Claims) → length (c .ids) ≡ mostNodes → length (c .terms) ≡ mostNodes → T (all blankId (drop n (c .ids))) → T (all blankTerm (drop n (c .terms)))
-      → packClaims (holdWire n l c) ≡ c
-  unfolding packClaims holdWire
+      → packClaims (holdBoard n l c) ≡ c
+  unfolding packClaims holdBoard
   claims-same l c e e′ b b′ = let f : n ≤ length (c .ids) = omega arith in let f′ : n ≤ length (c .terms) = omega arith in λ i. record {
     ids = table-same mostNodes n (idRow (column idAt n (c .ids))) (c .ids) (record { 0 = 0 }) (record { 0 = 0 }) (λ x. x) e
         (all-refl (take n (c .ids))) (all-known blankId id-none (drop n (c .ids)) (all-any (drop n (c .ids))) b)
@@ -304,7 +304,7 @@ aWrite = record {
 
 history-same : (h : History) → length (h .items) ≡ historyLength → T (tidyHistory h) → packHistory (holdHistory h) ≡ h
 unfolding packHistory holdHistory tidyHistory
-history-same h e t = let p = places-same aWrite historyLength (h .items) e (all-any (h .items)) (h .len) t in λ i. record { items = p .items i; len = p .count i }
+history-same h e t = let p = places-same aWrite historyLength (h .items) e (all-any (h .items)) (h .len) t in λ i. record { items = p .items i; len = p .held i }
 
 -- ---- the state
 
@@ -313,12 +313,12 @@ unfolding tidyCore packCore holdCore holdDesk
 core-same s k few t =
     let n = s .count in
     let c = s .core in
-    let h = (as-is (tidyMastership (c .service)) & as-is (all tidyNode (take n (c .nodes))) & as-is (all blankNode (drop n (c .nodes)))
+    let h = (as-is (tidyMastership (c .service)) & as-is (all tidyController (take n (c .controllers))) & as-is (all blankController (drop n (c .controllers)))
     & as-is (all tidyStream (take n (c .streams))) & as-is (all blankStream (drop n (c .streams)))
     & as-is (all blankId (drop n (c .claims .ids))) & as-is (all blankTerm (drop n (c .claims .terms)))) .to t in
     let w = h .0 .0 in λ i. record {
       service = mastership-same (c .service) (k .service) (w .0 .0 .0 .0) i;
-      nodes = nodes-same n few (c .nodes) (k .nodes) (k .node-rows) (w .0 .0 .0 .1) (w .0 .0 .1) i;
+      controllers = controllers-same n few (c .controllers) (k .controllers) (k .controller-rows) (w .0 .0 .0 .1) (w .0 .0 .1) i;
       streams = streams-same n few (c .streams) (c .claims) (k .streams) (k .stream-rows) (w .0 .1) (w .1) i;
       claims = claims-same n few (c .streams) (c .claims) (k .ids) (k .terms) (h .0 .1) (h .1) i;
     }

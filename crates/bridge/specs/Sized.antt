@@ -1,17 +1,17 @@
 -- Every array of a state has its length, as its type says. Assumes nothing.
 use mathlib.Core.Path.{_≡_}
 use lib.ListN.{length}
-use Rattle.rules.specs.Limits.{mostNodes, queueLength, historyLength}
+use Rattle.rules.specs.Limits.{mostNodes, mostBackups, queueLength, historyLength}
 use Rattle.laws.specs.All.{All}
 use Rattle.parts.specs.declared.Mastership.{Mastership}
-use Rattle.state.specs.declared.Node.{Node}
+use Rattle.state.specs.declared.Controller.{Controller}
 use Rattle.state.specs.declared.Stream.{Stream}
 use Rattle.state.specs.declared.State.{State}
 
 abbrev pub SizedMastership : Mastership → Type 0
-SizedMastership m = length (m .backups) ≡ 7
+SizedMastership m = length (m .backups) ≡ mostBackups
 
-pub record SizedNode (r : Node) : Type 0 where
+pub record SizedController (r : Controller) : Type 0 where
   pub events : length (r .events .items) ≡ queueLength
   pub items : All SizedMastership (r .events .items)
   pub learned : SizedMastership (r .learned)
@@ -22,8 +22,8 @@ pub record SizedStream (r : Stream) : Type 0 where
 
 pub record Sized (s : State) : Type 0 where
   pub service : SizedMastership (s .core .service)
-  pub nodes : length (s .core .nodes) ≡ mostNodes
-  pub node-rows : All SizedNode (s .core .nodes)
+  pub controllers : length (s .core .controllers) ≡ mostNodes
+  pub controller-rows : All SizedController (s .core .controllers)
   pub streams : length (s .core .streams) ≡ mostNodes
   pub stream-rows : All SizedStream (s .core .streams)
   pub ids : length (s .core .claims .ids) ≡ mostNodes

@@ -25,9 +25,9 @@ module _ (list : List ℕ) (t : Trailer) (is : t ≡ trailerOf list) where
   code-good e = sym code-is ∙ e
 
 pub whole-comparison : {first second : List ℕ} {one other : Trailer} → Trails first one → Trails second other
-    → whole (one .nodes) (recordAt first) (recordAt second) (one .count) (other .count) ≡ comparison first second
+    → whole (one .nodes) (recordAt first) (recordAt second) (one .records) (other .records) ≡ comparison first second
 whole-comparison {first} {second} {one} {other} t u =
-    ap (λ (k : ℕ). whole k (recordAt first) (recordAt second) (one .count) (other .count)) (t .nodes) ∙ ap₂ (whole (nodeCount first) (recordAt first) (recordAt second)) (t .count) (u .count)
+    ap (λ (k : ℕ). whole k (recordAt first) (recordAt second) (one .records) (other .records)) (t .nodes) ∙ ap₂ (whole (nodeCount first) (recordAt first) (recordAt second)) (t .records) (u .records)
 
 -- ---- the answers
 

@@ -7,6 +7,7 @@ use native.Mathlib.Numerals.{add-one}
 use native.Mathlib.Omega.{arith}
 use lib.ListN.{length, getD, drop, drop-of-length-le}
 use lib.Seq.{drop-cons}
+use Rattle.rules.specs.Limits.{mostNodes}
 use Rattle.rules.specs.Step.{Event}
 use Rattle.verdict.specs.Verdict.{Pulled, pull}
 use Rattle.letters.specs.Letters.{letterOf, TableFor, passes}
@@ -69,7 +70,7 @@ module _ (count : ℕ) (here there : ℕ → Event) (n m : ℕ) where
       walk-left h = ap₂ compares (sym none-behind) (sym (drop-cons places j 0 (let z = long in omega arith))) ∙ w .going
 
     -- The next record of the first list.
-    module _ (few : count ≤ 8) {table : List ℕ} (for : TableFor count table) (letters : List ℕ) (are : Holds (λ q. letterOf (there q)) letters m) (more : j < n) {a at : ℕ} (is : a ≡ letterOf (here j))
+    module _ (few : count ≤ mostNodes) {table : List ℕ} (for : TableFor count table) (letters : List ℕ) (are : Holds (λ q. letterOf (there q)) letters m) (more : j < n) {a at : ℕ} (is : a ≡ letterOf (here j))
         (s : Sought (isStop letters table a places) j (length places) at) where
       stop : Sought (λ q. not (may j (getD places q 0))) j (length places) at
       stop = seek-as as-stops (subst (λ (x : ℕ). Sought (isStop letters table x places) j (length places) at) is s)

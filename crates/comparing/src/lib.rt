@@ -78,8 +78,8 @@ fn hindrance(
     a: usize,
     b: usize,
 ) -> Finding
-    requires { ⌜ Trails (now first) one × Trails (now second) other × Placed (now places) (other .count) × (a < one .count) × (a ≤ b) × (b < other .count) ⌝ }
-    ensures { λ r. ⌜ r ≡ hindrance (one .nodes) (recordAt (now (first .entry))) (recordAt (now (second .entry))) (one .count) (now (places .entry)) a (getD (now (places .entry)) b 0) ⌝ }
+    requires { ⌜ Trails (now first) one × Trails (now second) other × Placed (now places) (other .records) × (a < one .records) × (a ≤ b) × (b < other .records) ⌝ }
+    ensures { λ r. ⌜ r ≡ hindrance (one .nodes) (recordAt (now (first .entry))) (recordAt (now (second .entry))) (one .records) (now (places .entry)) a (getD (now (places .entry)) b 0) ⌝ }
 {
     let found = taking::find_left(
         places,
@@ -88,13 +88,13 @@ fn hindrance(
         a,
         lists::read_record(first, one.first, a),
     );
-    if found == other.count {
+    if found == other.records {
         return only_first(a);
     }
     let place = places[b] as usize;
     let blocking = lists::read_record(second, other.first, place);
     let behind = taking::find_record(first, one, a + 1, blocking);
-    if behind == one.count {
+    if behind == one.records {
         return only_second(place);
     }
     Finding {
@@ -116,15 +116,15 @@ fn walk(
     places: &mut [u16],
     table: &[u8],
 ) -> Finding
-    requires { ⌜ Trails (now first) one × Trails (now second) other × Lettered (now second) (now letters) (recordCount (now second)) × (now places ≡ from 0 (other .count)) × TableFor (one .nodes) (now table) ⌝ }
-    ensures { λ r. ⌜ r ≡ whole (one .nodes) (recordAt (now (first .entry))) (recordAt (now (second .entry))) (one .count) (other .count) ⌝ }
+    requires { ⌜ Trails (now first) one × Trails (now second) other × Lettered (now second) (now letters) (recordCount (now second)) × (now places ≡ from 0 (other .records)) × TableFor (one .nodes) (now table) ⌝ }
+    ensures { λ r. ⌜ r ≡ whole (one .nodes) (recordAt (now (first .entry))) (recordAt (now (second .entry))) (one .records) (other .records) ⌝ }
 {
     let mut j: usize = 0;
-    while j < one.count {
+    while j < one.records {
         let event = lists::read_record(first, one.first, j);
         let letter = letters::letter(event.kind, event.node);
         let at = taking::next_stop(letters, places, table, letter, j);
-        if at == other.count {
+        if at == other.records {
             return only_first(j);
         }
         let place = places[at] as usize;
@@ -135,7 +135,7 @@ fn walk(
         taking::take(places, j, at);
         j += 1;
     }
-    if j < other.count {
+    if j < other.records {
         return only_second(places[j] as usize);
     }
     Finding {
@@ -157,8 +157,8 @@ fn walk_letters(
     places: &mut [u16],
     table: &[u8],
 ) -> Finding
-    requires { ⌜ Trails (now first) one × Trails (now second) other × (length (now letters) ≡ other .count) × (length (now places) ≡ other .count) × TableFor (one .nodes) (now table) ⌝ }
-    ensures { λ r. ⌜ r ≡ whole (one .nodes) (recordAt (now (first .entry))) (recordAt (now (second .entry))) (one .count) (other .count) ⌝ }
+    requires { ⌜ Trails (now first) one × Trails (now second) other × (length (now letters) ≡ other .records) × (length (now places) ≡ other .records) × TableFor (one .nodes) (now table) ⌝ }
+    ensures { λ r. ⌜ r ≡ whole (one .nodes) (recordAt (now (first .entry))) (recordAt (now (second .entry))) (one .records) (other .records) ⌝ }
 {
     taking::fill_letters(second, other, letters);
     taking::fill_places(places);
@@ -174,14 +174,14 @@ fn compare_good(first: &[u8], one: Trailer, second: &[u8], other: Trailer) -> Fi
     letters::fill_table(one.nodes, &mut table);
     let mut letters = [0u8; MOST_RECORDS];
     let mut places = [0u16; MOST_RECORDS];
-    let count = other.count;
+    let records = other.records;
     walk_letters(
         first,
         one,
         second,
         other,
-        &mut letters[..count],
-        &mut places[..count],
+        &mut letters[..records],
+        &mut places[..records],
         &table,
     )
 }

@@ -8,7 +8,7 @@ use lib.ListN.{length, drop}
 use lib.Seq.{drop-at}
 use lib.Dec.{eqb, leb}
 use borrow.Author.Tests.{eq-eqb}
-use Rattle.rules.specs.Codes.{bufferShort}
+use Rattle.rules.specs.Codes.{outTooShort}
 use Rattle.rules.specs.State.{Write}
 use Rattle.rules.specs.Step.{Event}
 use Rattle.laws.specs.Tests.{is-eq}
@@ -49,13 +49,13 @@ run-refusal-low : (list out : List ℕ) → runRefusal list out < noWrites
 unfolding runRefusal
 run-refusal-low list out = go (eqb (refusal list) 0)
   where
-    go : (b : Bool) → cond b (need (leb (recordCount list + historyRoom) (length out)) bufferShort 0) (refusal list) < noWrites
+    go : (b : Bool) → cond b (need (leb (recordCount list + historyRoom) (length out)) outTooShort 0) (refusal list) < noWrites
     go true = need-low (leb (recordCount list + historyRoom) (length out)) _ _ (omega arith) (omega arith)
     go false = refusal-low list
 
 none-kept-out : (count : ℕ) (es : List Event) → KeptOut count es []
 none-kept-out count es = record {
-  rising = tt;
+  never-falls = tt;
   one-node = λ x y p. absurd (List·Memᴰ·not-nil p);
   named = λ w p. absurd (List·Memᴰ·not-nil p);
   no-other = λ w p. absurd (List·Memᴰ·not-nil p);
@@ -70,9 +70,9 @@ held list out accepted =
     let r = completed t out in
     let b = historyBytes (t .state .history) in
     let rest = drop (length (t .answer ++ b)) out in
-    let count : writesReturned r ≡ length (t .state .history) = omega arith in
+    let kept : writesReturned r ≡ length (t .state .history) = omega arith in
     let part : historyPart list r ≡ b ++ rest = ap (drop (recordCount list)) (append-assoc (t .answer) b rest) ∙ drop-at (t .answer) (b ++ rest) (recordCount list) (all-answered list (good list accepted)) in
-    ap₂ (λ (n : ℕ) (l : List ℕ). table n (entryAt l)) count part ∙ writes-read (t .state .history) rest
+    ap₂ (λ (n : ℕ) (l : List ℕ). table n (entryAt l)) kept part ∙ writes-read (t .state .history) rest
 
 -- ---- the statements
 
@@ -80,7 +80,7 @@ pub bytes-kept-out : BytesKeptOut
 unfolding ran runRefusal
 bytes-kept-out list out = go (eqb (runRefusal list out) 0) refl
   where
-    list-good : (b : Bool) → eqb (refusal list) 0 ≡ b → cond b (need (leb (recordCount list + historyRoom) (length out)) bufferShort 0) (refusal list) ≡ 0 → refusal list ≡ 0
+    list-good : (b : Bool) → eqb (refusal list) 0 ≡ b → cond b (need (leb (recordCount list + historyRoom) (length out)) outTooShort 0) (refusal list) ≡ 0 → refusal list ≡ 0
     list-good true i e = is-eq (refusal list) 0 .to (rw i tt)
     list-good false i e = e
 

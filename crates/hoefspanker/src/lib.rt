@@ -2,7 +2,7 @@
 ghost use mathlib.Core.Path.{_≡_};
 ghost use Rattle.packed.specs.Bytes.{reported};
 ghost use Rattle.runner.specs.Ran.{ran};
-ghost use Rattle.merging.specs.Told.{told};
+ghost use Rattle.merging.specs.Reply.{reply};
 
 // Runs a list from a fresh state: an answer for each record, the history behind the answers, and the bytes after it stay.
 // Returns 256 plus the number of writes. A refused list returns why, and leaves every byte of the buffer.
@@ -18,8 +18,8 @@ pub extern "C" fn hoefspanker_run(list: &[u8], out: &mut [u8]) -> u32
 // or the refusal, with every byte of the buffer as it was.
 #[no_mangle]
 pub extern "C" fn hoefspanker_same_merge(first: &[u8], second: &[u8], places: &mut [u8]) -> u32
-    ensures { λ r. ⌜ (r ≡ told (now (first .entry)) (now (second .entry)) (now (places .entry)) .returned)
-        × (now (places .exit) ≡ told (now (first .entry)) (now (second .entry)) (now (places .entry)) .places) ⌝ }
+    ensures { λ r. ⌜ (r ≡ reply (now (first .entry)) (now (second .entry)) (now (places .entry)) .returned)
+        × (now (places .exit) ≡ reply (now (first .entry)) (now (second .entry)) (now (places .entry)) .places) ⌝ }
 {
     merging::same_merge(first, second, places)
 }

@@ -17,25 +17,25 @@ fn one_of(kind: u8, one: u8, other: u8) -> bool
 fn is_service(kind: u8) -> bool
     ensures { λ r. ⌜ r ≡ has kind L.serviceKinds ⌝ }
 {
-    one_of(kind, 1, 2)
+    one_of(kind, parts::JOIN, parts::LEAVE)
 }
 
 fn is_learn(kind: u8) -> bool
     ensures { λ r. ⌜ r ≡ has kind L.learnKinds ⌝ }
 {
-    kind == 3
+    kind == parts::LEARN
 }
 
 fn is_send(kind: u8) -> bool
     ensures { λ r. ⌜ r ≡ has kind L.sendKinds ⌝ }
 {
-    one_of(kind, 4, 6)
+    one_of(kind, parts::SEND_UPDATE, parts::SEND_WRITE)
 }
 
 fn is_receive(kind: u8) -> bool
     ensures { λ r. ⌜ r ≡ has kind L.receiveKinds ⌝ }
 {
-    one_of(kind, 5, 7)
+    one_of(kind, parts::RECEIVE_UPDATE, parts::RECEIVE_WRITE)
 }
 
 fn is_message(kind: u8) -> bool
@@ -44,7 +44,7 @@ fn is_message(kind: u8) -> bool
     is_send(kind) | is_receive(kind)
 }
 
-fn is_node(kind: u8) -> bool
+fn is_node_kind(kind: u8) -> bool
     ensures { λ r. ⌜ r ≡ has kind L.nodeKinds ⌝ }
 {
     is_learn(kind) | is_message(kind)
@@ -54,20 +54,23 @@ fn is_node(kind: u8) -> bool
 fn is_quiet(kind: u8) -> bool
     ensures { λ r. ⌜ r ≡ has kind L.quietKinds ⌝ }
 {
-    one_of(kind, 8, 11)
+    one_of(kind, parts::CONNECT, parts::HANDLE_WRITE)
 }
 
 // The steps of the switch on one stream.
 fn is_stream(kind: u8) -> bool
     ensures { λ r. ⌜ r ≡ has kind L.streamKinds ⌝ }
 {
-    (kind == 8) | (kind == 9) | (kind == 10) | (kind == 11)
+    (kind == parts::CONNECT)
+        | (kind == parts::CLOSE)
+        | (kind == parts::HANDLE_UPDATE)
+        | (kind == parts::HANDLE_WRITE)
 }
 
 fn is_switch(kind: u8) -> bool
     ensures { λ r. ⌜ r ≡ has kind L.switchKinds ⌝ }
 {
-    is_stream(kind) | (kind == 12) | (kind == 13)
+    is_stream(kind) | (kind == parts::SHUTDOWN) | (kind == parts::STARTUP)
 }
 
 // ---- the list
@@ -79,10 +82,10 @@ fn exists(nodes: u8, kind: u8, node: u8) -> bool
     if kind == 0 {
         return false;
     }
-    if kind < 12 {
-        return (1 <= node) & (node <= nodes);
+    if kind < parts::SHUTDOWN {
+        return parts::is_node(nodes, node);
     }
-    if kind < 14 {
+    if kind <= parts::STARTUP {
         return node == 0;
     }
     false
@@ -95,7 +98,7 @@ fn listed(kind_a: u8, node_a: u8, kind_b: u8, node_b: u8) -> bool
     let differ = node_a != node_b;
     let service = is_service(kind_a);
     let switch = is_switch(kind_b);
-    let a = is_node(kind_a) & is_node(kind_b) & differ;
+    let a = is_node_kind(kind_a) & is_node_kind(kind_b) & differ;
     let b = service & is_message(kind_b);
     let c = service & switch;
     let d = is_learn(kind_a) & switch;

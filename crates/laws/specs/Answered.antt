@@ -4,7 +4,7 @@ use mathlib.Core.Bool.{Bool, not}
 use mathlib.Core.Option.{none, some}
 use Prim.Native.Nat.{ℕ}
 use lib.Dec.{T}
-use Rattle.rules.specs.Codes.{stepDone, outOfRange, unknownKind, unknownNode, notAllowed, termsSpent, historyFull, queueFull}
+use Rattle.rules.specs.Codes.{stepDone, outOfRange, unknownKind, wrongNode, notAllowed, termLimit, historyFull, queueFull}
 use Rattle.rules.specs.State.{State}
 use Rattle.rules.specs.Range.{inRange}
 use Rattle.rules.specs.Part.{Rule}
@@ -55,11 +55,11 @@ pub data Answered (e : Event) (s : State) : ℕ → Type 0 where
   -- 2: in range, and no such kind.
   unknown-kind : T (inRange s) → kindOf (e .kind) ≡ none → Answered e s unknownKind
   -- 3: in range, the kind exists, and does not call for the node.
-  unknown-node : (k : Kind) → T (inRange s) → kindOf (e .kind) ≡ some k → T (not (called (classOf k) (s .count) (e .node))) → Answered e s unknownNode
+  wrong-node : (k : Kind) → T (inRange s) → kindOf (e .kind) ≡ some k → T (not (called (classOf k) (s .count) (e .node))) → Answered e s wrongNode
   -- 4: all these, and the rule does not allow the step.
   not-allowed : (k : Kind) → Reaches e s k → T (not (allows e s k)) → Answered e s notAllowed
   -- 5: allowed, and the term would pass the top.
-  terms-spent : (k : Kind) → Reaches e s k → T (allows e s k) → T (not (termLeft e s k)) → Answered e s termsSpent
+  term-limit : (k : Kind) → Reaches e s k → T (allows e s k) → T (not (termLeft e s k)) → Answered e s termLimit
   -- 6: the write would be accepted, and the history is full.
   history-full : (k : Kind) → Reaches e s k → T (allows e s k) → T (termLeft e s k) → T (not (historyLeft e s k)) → Answered e s historyFull
   -- 7: a queue that the step appends to is full.

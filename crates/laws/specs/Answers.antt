@@ -4,7 +4,7 @@ use mathlib.Core.Bool.{Bool, true, false}
 use mathlib.Core.Option.{Option, none, some}
 use Prim.Native.Nat.{ℕ}
 use lib.Dec.{T}
-use Rattle.rules.specs.Codes.{stepDone, outOfRange, unknownKind, unknownNode}
+use Rattle.rules.specs.Codes.{stepDone, outOfRange, unknownKind, wrongNode}
 use Rattle.rules.specs.State.{State}
 use Rattle.rules.specs.Range.{inRange}
 use Rattle.rules.specs.Part.{Result, Out, refuse, settle}
@@ -12,13 +12,13 @@ use Rattle.rules.specs.Parts.{Writes, part}
 use Rattle.rules.specs.Rules.{Kind, classOf, rule}
 use Rattle.rules.specs.Step.{Event, kindOf, called, act, refused, atNode, ofKind, ofState, step}
 use Rattle.laws.specs.Tests.{is-yes, is-not}
-use Rattle.laws.specs.Answered.{Passes, sees, after, Reaches, Answered, step-done, out-of-range, unknown-kind, unknown-node, not-allowed, terms-spent, history-full, queue-full}
+use Rattle.laws.specs.Answered.{Passes, sees, after, Reaches, Answered, step-done, out-of-range, unknown-kind, wrong-node, not-allowed, term-limit, history-full, queue-full}
 use Rattle.laws.specs.Decide.{Decided, barred, no-term, no-history, no-queue, passed, decides, via-is}
 
 -- Why a rule that is reached refuses.
 refusal : (e : Event) (s : State) (k : Kind) → Reaches e s k → (a : ℕ) → Decided (rule k (e .node)) (sees k (e .node) s) (refuse a) → Answered e s a
 refusal e s k c a (barred x) = not-allowed k c x
-refusal e s k c a (no-term x t) = terms-spent k c x t
+refusal e s k c a (no-term x t) = term-limit k c x t
 refusal e s k c a (no-history x t h) = history-full k c x t h
 refusal e s k c a (no-queue x t h q) = queue-full k c x t h q
 
@@ -33,7 +33,7 @@ module _ (G : Result ℕ State → Type 0) (e : Event) (s : State) where
       noded : (k : Kind) (b : Bool) → called (classOf k) (s .count) (e .node) ≡ b → T (inRange s) → kindOf (e .kind) ≡ some k → G (atNode b k (e .node) s)
       noded k true c r i = let t : Reaches e s k = record { in-range = r; kind = i; node = rw c tt } in
           via-is G (part (classOf k) (e .node)) (rule k (e .node)) s (λ a d. f a (refusal e s k t a d)) (g k t)
-      noded k false c r i = f unknownNode (unknown-node k r i (rw c tt))
+      noded k false c r i = f wrongNode (wrong-node k r i (rw c tt))
 
       kinded : (o : Option Kind) → kindOf (e .kind) ≡ o → T (inRange s) → G (ofKind o (e .node) s)
       kinded none i r = f unknownKind (unknown-kind r i)
@@ -66,8 +66,8 @@ unfolding step
 only e s (step-done k c x t h q) = ap (λ r. r .answer) (does e s k c (record { allowed = x; term = t; history = h; queues = q }))
 only e s (out-of-range r) = rw (is-not (inRange s) .to r)
 only e s (unknown-kind r i) = rw (is-yes (inRange s) .to r, i)
-only e s (unknown-node k r i n) = rw (is-yes (inRange s) .to r, i, is-not (called (classOf k) (s .count) (e .node)) .to n)
+only e s (wrong-node k r i n) = rw (is-yes (inRange s) .to r, i, is-not (called (classOf k) (s .count) (e .node)) .to n)
 only e s (not-allowed k c x) = ap (λ r. r .answer) (answers e s k c _ (barred x))
-only e s (terms-spent k c x t) = ap (λ r. r .answer) (answers e s k c _ (no-term x t))
+only e s (term-limit k c x t) = ap (λ r. r .answer) (answers e s k c _ (no-term x t))
 only e s (history-full k c x t h) = ap (λ r. r .answer) (answers e s k c _ (no-history x t h))
 only e s (queue-full k c x t h q) = ap (λ r. r .answer) (answers e s k c _ (no-queue x t h q))

@@ -3,7 +3,7 @@ use mathlib.Core.Path.{_≡_, refl}
 use mathlib.Core.Bool.{Bool, true, false, not}
 use Prim.Native.Nat.{ℕ}
 use lib.Dec.{T}
-use Rattle.rules.specs.Codes.{stepDone, notAllowed, termsSpent, historyFull, queueFull}
+use Rattle.rules.specs.Codes.{stepDone, notAllowed, termLimit, historyFull, queueFull}
 use Rattle.rules.specs.Part.{Result, Out, refuse, done, Part, settle, via, Rule, need, decide}
 use Rattle.laws.specs.Answered.{Passes}
 use Rattle.laws.specs.Tests.{is-yes, is-not}
@@ -12,7 +12,7 @@ module _ {R W : Type 0} where
   -- The five ends of `decide`, each with the tests that lead to it.
   pub data Decided (r : Rule R W) (v : R) : Out ℕ W → Type 0 where
     barred : T (not (r .allowed v)) → Decided r v (refuse notAllowed)
-    no-term : T (r .allowed v) → T (not (r .termLeft v)) → Decided r v (refuse termsSpent)
+    no-term : T (r .allowed v) → T (not (r .termLeft v)) → Decided r v (refuse termLimit)
     no-history : T (r .allowed v) → T (r .termLeft v) → T (not (r .historyLeft v)) → Decided r v (refuse historyFull)
     no-queue : T (r .allowed v) → T (r .termLeft v) → T (r .historyLeft v) → T (not (r .queuesLeft v)) → Decided r v (refuse queueFull)
     passed : Passes r v → Decided r v (done stepDone (r .effect v))
@@ -23,7 +23,7 @@ module _ {R W : Type 0} where
     decided = go (r .allowed v) (r .termLeft v) (r .historyLeft v) (r .queuesLeft v) refl refl refl refl
       where
         go : (a t h q : Bool) → r .allowed v ≡ a → r .termLeft v ≡ t → r .historyLeft v ≡ h → r .queuesLeft v ≡ q
-            → Decided r v (need a notAllowed (need t termsSpent (need h historyFull (need q queueFull (done stepDone (r .effect v))))))
+            → Decided r v (need a notAllowed (need t termLimit (need h historyFull (need q queueFull (done stepDone (r .effect v))))))
         go false t h q i j k l = barred (rw i tt)
         go true false h q i j k l = no-term (rw i tt) (rw j tt)
         go true true false q i j k l = no-history (rw i tt) (rw j tt) (rw k tt)
@@ -49,7 +49,7 @@ module _ {S R W : Type 0} (G : Result ℕ S → Type 0) (p : Part S R W) (r : Ru
     where
       go : {o : Out ℕ W} → Decided r (p .get s) o → G (settle p s o)
       go (barred a) = f notAllowed (barred a)
-      go (no-term a t) = f termsSpent (no-term a t)
+      go (no-term a t) = f termLimit (no-term a t)
       go (no-history a t h) = f historyFull (no-history a t h)
       go (no-queue a t h q) = f queueFull (no-queue a t h q)
       go (passed k) = g k

@@ -6,7 +6,7 @@ use mathlib.Core.List.{List, [], _∷_}
 use Prim.Native.Nat.{ℕ, _≤_}
 use lib.ListN.{length, getD}
 use Rattle.rules.specs.Limits.{mostNodes, topTerm, topId, queueLength, historyLength}
-use Rattle.rules.specs.State.{Mastership, Message, update, write, Status, ok, alreadyExists, permissionDenied, Request, Response, Write, Desk, Wire, Core, State, blank}
+use Rattle.rules.specs.State.{Mastership, Message, update, write, Status, ok, alreadyExists, permissionDenied, Request, Response, Write, Desk, Board, Core, State, blank}
 use Rattle.laws.specs.All.{All}
 
 -- ---- of any list
@@ -91,11 +91,11 @@ pub record StreamFits (isOpen : Bool) (sent : ℕ) (requests : List Request) (re
   pub term-high : term ≤ topTerm
   pub shut : isOpen ≡ false → Shut sent requests responses id term
 
--- The stream at place i of a wire; past the end it is a closed one.
-abbrev pub StreamAt : Wire → ℕ → Type 0
+-- The stream at place i of a board; past the end it is a closed one.
+abbrev pub StreamAt : Board → ℕ → Type 0
 StreamAt w i = StreamFits (getD (w .opens) i false) (getD (w .sent) i 0) (getD (w .requests) i []) (getD (w .responses) i []) (getD (w .ids) i 0) (getD (w .terms) i 0)
 
-pub record WireFits (count : ℕ) (running : Bool) (w : Wire) : Type 0 where
+pub record BoardFits (count : ℕ) (running : Bool) (w : Board) : Type 0 where
   pub opens-size : length (w .opens) ≡ count
   pub sent-size : length (w .sent) ≡ count
   pub requests-size : length (w .requests) ≡ count
@@ -118,7 +118,7 @@ pub record CoreFits (count : ℕ) (running : Bool) (c : Core) : Type 0 where
   pub learned-size : length (c .learned) ≡ count
   pub learned : All (LearnedFits count) (c .learned)
   pub says-size : length (c .says) ≡ count
-  pub wire : WireFits count running (c .wire)
+  pub board : BoardFits count running (c .board)
 
 pub record InRange (s : State) : Type 0 where
   pub count : Within 1 mostNodes (s .count)

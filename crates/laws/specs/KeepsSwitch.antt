@@ -1,4 +1,4 @@
--- Handling a write, stopping and starting keep the switch in range, and a wire with nothing on it is in range. Assumes nothing.
+-- Handling a write, stopping and starting keep the switch in range, and a board with nothing on it is in range. Assumes nothing.
 use mathlib.Core.Path.{_≡_, refl, ap}
 use mathlib.Core.Bool.{Bool, true, false, not, cond, _||_, true≢false}
 use mathlib.Core.List.{List, [], _∷_, map}
@@ -7,12 +7,12 @@ use native.Mathlib.Omega.{arith}
 use lib.ListN.{length, replicate, length-replicate}
 use lib.Dec.{T, ltb}
 use Rattle.rules.specs.Limits.{topTerm, historyLength}
-use Rattle.rules.specs.State.{Request, Response, Status, ok, permissionDenied, Wire}
+use Rattle.rules.specs.State.{Request, Response, Status, ok, permissionDenied, Board}
 use Rattle.rules.specs.Queues.{push, first, rest, empty}
 use Rattle.rules.specs.Parts.{Served, Serving}
 use Rattle.rules.specs.Rules.{isWrite, noRequest, accepts, writeAnswer, handleWriteRule, cleared}
 use Rattle.laws.specs.All.{All}
-use Rattle.laws.specs.InRange.{DistinctIds, Within, QueueFits, RequestFits, ResponseFits, WriteFits, WireFits}
+use Rattle.laws.specs.InRange.{DistinctIds, Within, QueueFits, RequestFits, ResponseFits, WriteFits, BoardFits}
 use Rattle.laws.specs.Tests.{_&_, as-is, is-yes, is-lt}
 use Rattle.laws.specs.RangeTest.{no-stream}
 use Rattle.laws.specs.Lists.{all-replicate, replicate-at, queue-rest, queue-first, queue-push}
@@ -63,10 +63,10 @@ module _ (count n : ℕ) (node : Within 1 count n) (v : Served) (requests : Queu
         accepted = tt;
       }
 
--- ---- 12 Shutdown, and the fresh wire: nothing on any stream
+-- ---- 12 Shutdown, and the fresh board: nothing on any stream
 
-abbrev pub noWire : ℕ → ℕ → Wire
-noWire count last = record {
+abbrev pub noBoard : ℕ → ℕ → Board
+noBoard count last = record {
   opens = replicate count false;
   sent = replicate count 0;
   requests = replicate count [];
@@ -76,8 +76,8 @@ noWire count last = record {
   last = last;
 }
 
-pub no-wire-fits : (count : ℕ) (running : Bool) (last : ℕ) → last ≤ topTerm → WireFits count running (noWire count last)
-no-wire-fits count running last u = record {
+pub no-board-fits : (count : ℕ) (running : Bool) (last : ℕ) → last ≤ topTerm → BoardFits count running (noBoard count last)
+no-board-fits count running last u = record {
   opens-size = length-replicate count false;
   sent-size = length-replicate count 0;
   requests-size = length-replicate count [];
@@ -94,7 +94,7 @@ no-wire-fits count running last u = record {
     no-ids zero = tt
     no-ids (suc n) = ((λ z. absurd (z refl)), no-ids n)
 
-pub cleared-fits : {count : ℕ} {running : Bool} {w : Wire} (running′ : Bool) → WireFits count running w → WireFits count running′ (cleared w)
+pub cleared-fits : {count : ℕ} {running : Bool} {w : Board} (running′ : Bool) → BoardFits count running w → BoardFits count running′ (cleared w)
 unfolding cleared
 cleared-fits {count} {w = w} running′ h = rw (
   same (w .opens) false,
@@ -109,7 +109,7 @@ cleared-fits {count} {w = w} running′ h = rw (
   h .responses-size,
   h .ids-size,
   h .terms-size,
-) (no-wire-fits count running′ (w .last) (h .last))
+) (no-board-fits count running′ (w .last) (h .last))
   where
     same : {A B : Type 0} (l : List A) (x : B) → map (λ y. x) l ≡ replicate (length l) x
     same [] x = refl
@@ -117,7 +117,7 @@ cleared-fits {count} {w = w} running′ h = rw (
 
 -- ---- 13 Startup
 
-pub started-fits : {count : ℕ} {running : Bool} {w : Wire} → WireFits count running w → WireFits count true w
+pub started-fits : {count : ℕ} {running : Bool} {w : Board} → BoardFits count running w → BoardFits count true w
 started-fits h = record {
   opens-size = h .opens-size;
   sent-size = h .sent-size;

@@ -1,4 +1,4 @@
--- Closing a stream and handling an update keep the wire in range: the telling of all, the closed stream, the updated one. Assumes nothing.
+-- Closing a stream and handling an update keep the board in range: the telling of all, the closed stream, the updated one. Assumes nothing.
 use mathlib.Core.Path.{_≡_, refl, sym, ap, _∙_}
 use mathlib.Core.Bool.{Bool, true, false, not, cond, _||_, true≢false}
 use mathlib.Core.List.{List, [], _∷_}
@@ -9,16 +9,16 @@ use lib.ListN.{length, getD, set, length-set}
 use lib.Seq.{getD-set-same, getD-set-other, set-getD}
 use lib.Dec.{T, eqb}
 use Rattle.rules.specs.Limits.{topId}
-use Rattle.rules.specs.State.{Response, ok, alreadyExists, Wire, update}
+use Rattle.rules.specs.State.{Response, ok, alreadyExists, Board, update}
 use Rattle.rules.specs.Queues.{push, empty, room}
 use Rattle.rules.specs.Parts.{Told, tellPart}
 use Rattle.rules.specs.Election.{largest, masterOf, taken, statusFor, news, tellFrom, tellAll, roomOpen}
 use Rattle.rules.specs.Rules.{isUpdate, noRequest, idsLeft, opensLeft, responsesLeft, changes, closeRoom, closed, closeRule, asked, idsWith, updateRoom, updated, handleUpdateRule}
-use Rattle.laws.specs.InRange.{QueueFits, RequestFits, AnswerFits, ResponseFits, WireFits}
+use Rattle.laws.specs.InRange.{QueueFits, RequestFits, AnswerFits, ResponseFits, BoardFits}
 use Rattle.laws.specs.Tests.{_&_, as-is, is-yes, is-absent}
 use Rattle.laws.specs.Lists.{all-set, at-set, queue-none, queue-rest, queue-first, queue-push, ids-set}
 use Rattle.laws.specs.Answered.{Passes}
-use Rattle.laws.specs.Wires.{ResponsesFit, own-queue, responses-fit, Anew}
+use Rattle.laws.specs.Boards.{ResponsesFit, own-queue, responses-fit, Anew}
 
 -- ---- what is told
 
@@ -77,11 +77,11 @@ module _ (ids : List ℕ) (high : (i : ℕ) → getD ids i 0 ≤ topId) where
 
 -- ---- 9 Close, 10 Handle update
 
--- What stream n's closing and updating see of a wire.
-abbrev pub seen : Bool → Wire → ℕ → Told
-seen running w n = tellPart n .get (record { running = running; history = []; wire = w })
+-- What stream n's closing and updating see of a board.
+abbrev pub seen : Bool → Board → ℕ → Told
+seen running w n = tellPart n .get (record { running = running; history = []; board = w })
 
-module _ {count : ℕ} {running : Bool} {w : Wire} (h : WireFits count running w) (n : ℕ) (place : n - 1 < count) where
+module _ {count : ℕ} {running : Bool} {w : Board} (h : BoardFits count running w) (n : ℕ) (place : n - 1 < count) where
   abbrev v : Told
   v = seen running w n
 
@@ -136,15 +136,15 @@ module _ {count : ℕ} {running : Bool} {w : Wire} (h : WireFits count running w
     stopped = λ e. absurd (true≢false (sym r ∙ e));
   }
     where
-      told : ResponseFits (news (idsWith n v) n)
-      told = news-fits (idsWith n v) n (ids-high (asked v .id) (k .id .upper))
+      news-fit : ResponseFits (news (idsWith n v) n)
+      news-fit = news-fits (idsWith n v) n (ids-high (asked v .id) (k .id .upper))
 
       go : (b : Bool) → T (cond b (roomOpen (w .opens) (w .responses)) (room (getD (w .responses) (n - 1) [])))
           → ResponsesFit count (w .opens)
           (cond b (tellAll (idsWith n v) (w .opens) (w .responses)) (set (w .responses) (n - 1) (push (news (idsWith n v) n) (getD (w .responses) (n - 1) []))))
       go true t = told-fits (idsWith n v) (ids-high (asked v .id) (k .id .upper)) count (w .opens) (w .responses) t (responses-fit h)
       go false t = own-queue (n - 1) o
-          (queue-push ResponseFits _ (getD (w .responses) (n - 1) []) told t (h .streams (n - 1) .responses-fit)) (responses-fit h)
+          (queue-push ResponseFits _ (getD (w .responses) (n - 1) []) news-fit t (h .streams (n - 1) .responses-fit)) (responses-fit h)
 
   pub handle-update-fits : Passes (handleUpdateRule n) v → Anew count running w n (handleUpdateRule n .effect v)
   unfolding handleUpdateRule

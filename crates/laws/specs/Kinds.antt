@@ -1,13 +1,13 @@
 -- What is asked of the kinds, by their numbers. Assumes nothing.
-use mathlib.Core.Path.{_≡_, sym, ap, _∙_}
-use mathlib.Core.Option.{Option, none}
+use mathlib.Core.Path.{_≡_, refl, sym, ap, _∙_}
+use mathlib.Core.Option.{Option, none, some}
 use mathlib.Core.List.{List, [], _∷_, _++_, map}
 use Prim.Native.Nat.{ℕ, suc, _+_, _-_, _≤_, _<_}
 use native.Mathlib.Omega.{arith}
 use lib.ListN.{getD, replicate, getD-replicate, List·getD-append, List·getD-map}
 use lib.Seq.{getD-append-add}
-use Rattle.rules.specs.Rules.{Kind}
-use Rattle.rules.specs.Step.{kinds, kindOf}
+use Rattle.rules.specs.Rules.{Kind, join, leave, learns, sendUpdate, receiveUpdate, sendWrite, receiveWrite, connect, close, handleUpdate, handleWrite, shutdown, startup}
+use Rattle.rules.specs.Step.{kinds, kindOf, numberOf}
 
 -- Where the answer is x for each of the eleven kinds of a node, and y for both kinds of the switch's power.
 module _ {A : Type 0} (f : Option Kind → A) (x y : A) (alike : map f kinds ≡ f none ∷ replicate 11 x ++ replicate 2 y) where
@@ -28,3 +28,19 @@ module _ {A : Type 0} (f : Option Kind → A) (x y : A) (alike : map f kinds ≡
 
   pub of-none : (k : ℕ) → 14 ≤ k → f (kindOf k) ≡ f none
   of-none k h = at-number k (14 + (k - 14)) (omega arith) ∙ getD-append-add (f none ∷ replicate 11 x ++ replicate 2 y) [] (k - 14) (f none)
+
+-- Each kind stands at its number.
+pub of-number : (k : Kind) → kindOf (numberOf k) ≡ some k
+of-number join = refl
+of-number leave = refl
+of-number learns = refl
+of-number sendUpdate = refl
+of-number receiveUpdate = refl
+of-number sendWrite = refl
+of-number receiveWrite = refl
+of-number connect = refl
+of-number close = refl
+of-number handleUpdate = refl
+of-number handleWrite = refl
+of-number shutdown = refl
+of-number startup = refl

@@ -10,7 +10,7 @@ pub mod RangeTest
 pub mod Lists
 pub mod Ids
 pub mod Decide
-pub mod Wires
+pub mod Boards
 pub mod KeepsService
 pub mod KeepsNode
 pub mod KeepsTelling

@@ -10,9 +10,9 @@ use lib.ListN.{length, getD, List·getD-eq-default}
 use lib.Dec.{T, eqb}
 use borrow.Author.Tests.{eq-eqb, ne-eqb}
 use Rattle.rules.specs.Limits.{mostNodes, topTerm, topId, queueLength, historyLength}
-use Rattle.rules.specs.State.{Mastership, Message, update, write, Status, ok, alreadyExists, permissionDenied, Request, Response, Write, Desk, Wire, Core, State}
-use Rattle.rules.specs.Range.{queueFits, backupFits, mastershipFits, serviceFits, learnedFits, deskFits, requestFits, answerFits, responseFits, streamFits, wireFits, writeFits, coreFits, inRange}
-use Rattle.laws.specs.InRange.{QueueFits, BackupFits, MastershipFits, ServiceFits, masterless, ruled, LearnedFits, unlearned, knows, DeskFits, RequestFits, AnswerFits, ResponseFits, StreamFits, StreamAt, WireFits, WriteFits, CoreFits, InRange}
+use Rattle.rules.specs.State.{Mastership, Message, update, write, Status, ok, alreadyExists, permissionDenied, Request, Response, Write, Desk, Board, Core, State}
+use Rattle.rules.specs.Range.{queueFits, backupFits, mastershipFits, serviceFits, learnedFits, deskFits, requestFits, answerFits, responseFits, streamFits, boardFits, writeFits, coreFits, inRange}
+use Rattle.laws.specs.InRange.{QueueFits, BackupFits, MastershipFits, ServiceFits, masterless, ruled, LearnedFits, unlearned, knows, DeskFits, RequestFits, AnswerFits, ResponseFits, StreamFits, StreamAt, BoardFits, WriteFits, CoreFits, InRange}
 use Rattle.laws.specs.Tests.{Is, is-map, _&_, is-not, is-unless, is-le, is-eq, is-ne, is-within, is-empty, is-all, is-each, is-distinct, is-distinct-ids}
 
 -- ---- the service and the nodes
@@ -120,7 +120,7 @@ no-stream = record {
   shut = λ e. record { no-sent = refl; no-requests = refl; no-responses = refl; no-id = refl; no-term = refl };
 }
 
-module _ (count : ℕ) (running : Bool) (w : Wire) where
+module _ (count : ℕ) (running : Bool) (w : Board) where
   past : {A : Type 0} (l : List A) (d : A) (i : ℕ) → length l ≡ count → ¬ (i < count) → getD l i d ≡ d
   past l d i e h = List·getD-eq-default l d (let z : length l ≡ count = e in omega arith)
 
@@ -131,9 +131,9 @@ module _ (count : ℕ) (running : Bool) (w : Wire) where
   every a b c d e f h i (no z) =
       rw (past (w .opens) false i a z, past (w .sent) 0 i b z, past (w .requests) [] i c z, past (w .responses) [] i d z, past (w .ids) 0 i e z, past (w .terms) 0 i f z) no-stream
 
-  is-wire : Is (wireFits count running w) (WireFits count running w)
-  unfolding wireFits
-  is-wire =
+  is-board : Is (boardFits count running w) (BoardFits count running w)
+  unfolding boardFits
+  is-board =
       is-map
       (λ t. let s = t .0 .0 .0 .0 in record {
         opens-size = s .0 .0 .0 .0 .0;
@@ -164,9 +164,9 @@ is-write count e = is-map (λ t. record { node = t .0; term = t .1 }) (λ k. (k 
 is-core : (count : ℕ) (running : Bool) (c : Core) → Is (coreFits count running c) (CoreFits count running c)
 unfolding coreFits
 is-core count running c =
-    is-map (λ t. record { desk = t .0 .0 .0 .0; learned-size = t .0 .0 .0 .1; learned = t .0 .0 .1; says-size = t .0 .1; wire = t .1 })
-    (λ k. ((((k .desk, k .learned-size), k .learned), k .says-size), k .wire))
-    (is-desk count (c .desk) & is-eq (length (c .learned)) count & is-all (is-learned count) (c .learned) & is-eq (length (c .says)) count & is-wire count running (c .wire))
+    is-map (λ t. record { desk = t .0 .0 .0 .0; learned-size = t .0 .0 .0 .1; learned = t .0 .0 .1; says-size = t .0 .1; board = t .1 })
+    (λ k. ((((k .desk, k .learned-size), k .learned), k .says-size), k .board))
+    (is-desk count (c .desk) & is-eq (length (c .learned)) count & is-all (is-learned count) (c .learned) & is-eq (length (c .says)) count & is-board count running (c .board))
 
 pub is-in-range : (s : State) → Is (inRange s) (InRange s)
 unfolding inRange

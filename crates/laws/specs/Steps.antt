@@ -17,7 +17,7 @@ use Rattle.rules.specs.Run.{run}
 use Rattle.laws.specs.InRange.{LearnedFits, unlearned, masterless, QueueFits, MastershipFits}
 use Rattle.laws.specs.RangeTest.{range-sound, range-complete}
 use Rattle.laws.specs.Lists.{all-replicate, queue-none}
-use Rattle.laws.specs.KeepsSwitch.{no-wire-fits}
+use Rattle.laws.specs.KeepsSwitch.{no-board-fits}
 use Rattle.laws.specs.Keeps.{after-fits}
 use Rattle.laws.specs.Answered.{after, sees}
 use Rattle.laws.specs.Answers.{step-is}
@@ -115,7 +115,7 @@ fresh-fits n low high = range-complete (fresh n) (record {
     learned-size = length-replicate n blank;
     learned = all-replicate (LearnedFits n) n blank (unlearned refl);
     says-size = length-replicate n false;
-    wire = no-wire-fits n true 0 (omega arith);
+    board = no-board-fits n true 0 (omega arith);
   };
   history-size = omega arith;
   history = tt;

@@ -6,6 +6,7 @@ use native.Mathlib.Omega.{arith}
 use native.Mathlib.Decide.{decLt}
 use lib.Dec.{leb, ltb}
 use borrow.Author.Tests.{ltb-true, ltb-false, lt-leb, ne-eqb}
+use Rattle.rules.specs.Limits.{mostNodes}
 use Rattle.rules.specs.Range.{within}
 use Rattle.rules.specs.Step.{Event}
 use Rattle.merges.specs.Independent.{exists, independent}
@@ -29,7 +30,7 @@ pub data Known (count : ℕ) (e f : Event) : Type 0 where
   known : f ≡ e → Known count e f
   unknown : exists count e ≡ false → exists count f ≡ false → Known count e f
 
-module _ (count : ℕ) (few : count ≤ 8) where
+module _ (count : ℕ) (few : count ≤ mostNodes) where
   -- no kind calls for a node above 8
   too-far : (kind node : ℕ) → 9 ≤ node → exists count (event kind node) ≡ false
   unfolding within
@@ -66,7 +67,7 @@ either-way : (count : ℕ) (e f : Event) → exists count e ≡ false → indepe
 unfolding independent
 either-way count e f h = rw h
 
-pub by-letters : (count : ℕ) → count ≤ 8 → (e f : Event) → independent count (stepFor (letterOf e)) (stepFor (letterOf f)) ≡ independent count e f
+pub by-letters : (count : ℕ) → count ≤ mostNodes → (e f : Event) → independent count (stepFor (letterOf e)) (stepFor (letterOf f)) ≡ independent count e f
 by-letters count few e f = go (stepFor (letterOf e)) (stands count few e) (stepFor (letterOf f)) (stands count few f)
   where
     go : (d : Event) → Known count e d → (g : Event) → Known count f g → independent count d g ≡ independent count e f

@@ -6,6 +6,7 @@ use Prim.Native.Nat.{ℕ, _+_, _*_, _/_, _%_, _≤_, _<_}
 use native.Mathlib.Omega.{arith}
 use lib.Dec.{eqb}
 use lib.ListN.{length, set, length-set}
+use Rattle.rules.specs.Limits.{mostNodes}
 use Rattle.rules.specs.Step.{Event}
 use Rattle.merges.specs.Independent.{independent}
 use Rattle.places.specs.Holds.{Holds, holds-more}
@@ -23,7 +24,7 @@ module _ {count : ℕ} {t : List ℕ} (for : TableFor count t) where
       let q : (256 * a + b) % 256 ≡ b = omega arith in
       ap (λ (x : ℕ). eqb x 1) (for .entries (256 * a + b) (omega arith) ∙ ap₂ (λ (x y : ℕ). bit (mayPass count x y)) p q) ∙ bit-one (mayPass count a b)
 
-  pub passes-free : count ≤ 8 → (e f : Event) → passes t (letterOf e) (letterOf f) ≡ independent count e f
+  pub passes-free : count ≤ mostNodes → (e f : Event) → passes t (letterOf e) (letterOf f) ≡ independent count e f
   unfolding mayPass
   passes-free few e f =
       let a = letter-small e in

@@ -5,7 +5,7 @@ use Prim.Native.Nat.{ℕ, _+_, _*_, _-_, _/_, _%_}
 use lib.ListN.{length, getD, drop}
 use lib.Dec.{eqb}
 use Rattle.rules.specs.Limits.{mostNodes}
-use Rattle.rules.specs.Codes.{badLength, badTrailer, badNodeCount, badSum}
+use Rattle.rules.specs.Codes.{badLength, badMark, badNodeCount, badExtent}
 use Rattle.rules.specs.State.{Write}
 use Rattle.rules.specs.Range.{within}
 use Rattle.rules.specs.Step.{Event}
@@ -69,7 +69,7 @@ need false code answer = code
 
 -- Why a list is refused, lower numbers first; 0 for a good one.
 unfoldable pub refusal : List ℕ → ℕ
-refusal l = need (lengthFits l) badLength (need (trailerFits l) badTrailer (need (nodesFit l) badNodeCount (need (sumFits l) badSum 0)))
+refusal l = need (lengthFits l) badLength (need (trailerFits l) badMark (need (nodesFit l) badNodeCount (need (sumFits l) badExtent 0)))
 
 -- ---- the records
 

@@ -9,7 +9,7 @@ use lib.Dec.{T}
 use lib.ListN.{length, take}
 use lib.Seq.{take-suc, take-all}
 use Rattle.rules.specs.Limits.{mostNodes}
-use Rattle.rules.specs.Codes.{badLength, badTrailer, badNodeCount, badSum}
+use Rattle.rules.specs.Codes.{badLength, badMark, badNodeCount, badExtent}
 use Rattle.rules.specs.Queues.{push}
 use Rattle.rules.specs.Step.{Event}
 use Rattle.laws.specs.InRange.{Within}
@@ -23,7 +23,7 @@ pub record Good (l : List ℕ) : Type 0 where
   pub nodes : Within 1 mostNodes (nodeCount l)
   pub sum : firstRecord l + 2 * recordCount l + trailerLength ≡ length l
 
-all-hold : (a b c d : Bool) → need a badLength (need b badTrailer (need c badNodeCount (need d badSum 0))) ≡ 0 → T a × (T c × T d)
+all-hold : (a b c d : Bool) → need a badLength (need b badMark (need c badNodeCount (need d badExtent 0))) ≡ 0 → T a × (T c × T d)
 all-hold false b c d e = absurd (omega arith)
 all-hold true false c d e = absurd (omega arith)
 all-hold true true false d e = absurd (omega arith)

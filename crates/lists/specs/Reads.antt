@@ -11,8 +11,8 @@ eventOf r = record { kind = r .kind; node = r .node }
 
 -- A good list's fields with code 0; of a refused list the code alone.
 abbrev pub answered : ℕ → List ℕ → Trailer
-answered zero l = record { code = 0; first = firstRecord l; count = recordCount l; nodes = nodeCount l }
-answered (suc code) l = record { code = suc code; first = 0; count = 0; nodes = 0 }
+answered zero l = record { code = 0; first = firstRecord l; records = recordCount l; nodes = nodeCount l }
+answered (suc code) l = record { code = suc code; first = 0; records = 0; nodes = 0 }
 
 unfoldable pub trailerOf : List ℕ → Trailer
 trailerOf l = answered (refusal l) l

@@ -3,7 +3,7 @@ use mathlib.Core.Path.{_≡_, refl}
 use mathlib.Core.List.{List, [], _∷_}
 use Prim.Native.Nat.{ℕ}
 use lib.ListN.{replicate}
-use Rattle.rules.specs.Codes.{badLength, badTrailer, badNodeCount, badSum}
+use Rattle.rules.specs.Codes.{badLength, badMark, badNodeCount, badExtent}
 use Rattle.rules.specs.Range.{within}
 use Rattle.rules.specs.Step.{Event}
 use Rattle.lists.specs.EventList.{numberAt, nodeCount, refusal, records, historyBytes}
@@ -25,18 +25,18 @@ pub listed-records : records listed ≡ event 1 1 ∷ event 3 1 ∷ event 8 1 �
 unfolding numberAt
 listed-records = refl
 
--- Twelve bytes with count 0 are accepted.
+-- Twelve bytes with no record are accepted.
 pub empty-good : refusal (0 ∷ 0 ∷ 0 ∷ 0 ∷ 0 ∷ 0 ∷ 0 ∷ 0 ∷ 1 ∷ 0 ∷ 77 ∷ 65 ∷ []) ≡ 0
 unfolding refusal numberAt within
 empty-good = refl
 
--- A count of 2^31 fits only modulo 2^32.
-pub wrapped-sum : refusal (0 ∷ 0 ∷ 0 ∷ 0 ∷ 0 ∷ 0 ∷ 0 ∷ 128 ∷ 1 ∷ 0 ∷ 77 ∷ 65 ∷ []) ≡ badSum
+-- 2^31 records fit only modulo 2^32.
+pub wrapped-sum : refusal (0 ∷ 0 ∷ 0 ∷ 0 ∷ 0 ∷ 0 ∷ 0 ∷ 128 ∷ 1 ∷ 0 ∷ 77 ∷ 65 ∷ []) ≡ badExtent
 unfolding refusal numberAt within
 wrapped-sum = refl
 
 -- Of several reasons the lowest number is given.
-pub lowest-first : refusal (0 ∷ 0 ∷ 0 ∷ 0 ∷ 0 ∷ 0 ∷ 0 ∷ 1 ∷ 9 ∷ 1 ∷ 77 ∷ 65 ∷ []) ≡ badTrailer
+pub lowest-first : refusal (0 ∷ 0 ∷ 0 ∷ 0 ∷ 0 ∷ 0 ∷ 0 ∷ 1 ∷ 9 ∷ 1 ∷ 77 ∷ 65 ∷ []) ≡ badMark
 unfolding refusal numberAt within
 lowest-first = refl
 

@@ -12,7 +12,7 @@ pub record Trails (list : List ℕ) (t : Trailer) : Type 0 where
   pub none : refusal list ≡ 0
   pub good : Good list
   pub first : t .first ≡ firstRecord list
-  pub count : t .count ≡ recordCount list
+  pub records : t .records ≡ recordCount list
   pub nodes : t .nodes ≡ nodeCount list
 
 pub trails : (list : List ℕ) (t : Trailer) → t ≡ trailerOf list → t .code ≡ 0 → Trails list t
@@ -23,6 +23,6 @@ trails list t e z =
       none = none;
       good = good list none;
       first = ap (λ (x : Trailer). x .first) is;
-      count = ap (λ (x : Trailer). x .count) is;
+      records = ap (λ (x : Trailer). x .records) is;
       nodes = ap (λ (x : Trailer). x .nodes) is;
     }

@@ -58,46 +58,46 @@ entries-more ws w part h =
     let n = history-length ws in
     rw (history-push ws w, ← n) (over-more (historyBytes ws) (entryBytes w) part (omega arith))
 
--- ---- the whole buffer, with room for `count` answers
+-- ---- the whole buffer, with room for `total` answers
 
 abbrev pub filled : ℕ → List ℕ → List Write → List ℕ → List ℕ
-filled count answers ws out = over answers (take count out) ++ over (historyBytes ws) (drop count out)
+filled total answers ws out = over answers (take total out) ++ over (historyBytes ws) (drop total out)
 
-module _ (count : ℕ) (out : List ℕ) (fits : count ≤ length out) where
-  pub filled-none : filled count [] [] out ≡ out
+module _ (total : ℕ) (out : List ℕ) (fits : total ≤ length out) where
+  pub filled-none : filled total [] [] out ≡ out
   unfolding historyBytes
-  filled-none = take-append-drop count out
+  filled-none = take-append-drop total out
 
-  front : (answers : List ℕ) → length answers ≤ count → length (over answers (take count out)) ≡ count
-  front answers h = let n = length-take-le count out fits in over-length answers (take count out) (omega arith) ∙ n
+  front : (answers : List ℕ) → length answers ≤ total → length (over answers (take total out)) ≡ total
+  front answers h = let n = length-take-le total out fits in over-length answers (take total out) (omega arith) ∙ n
 
-  pub filled-length : (answers : List ℕ) (ws : List Write) → length answers ≤ count → count + 4 * length ws ≤ length out → length (filled count answers ws out) ≡ length out
+  pub filled-length : (answers : List ℕ) (ws : List Write) → length answers ≤ total → total + 4 * length ws ≤ length out → length (filled total answers ws out) ≡ length out
   filled-length answers ws h k =
       let n = history-length ws in
-      let d = length-drop count out in
-      let b = over-length (historyBytes ws) (drop count out) (omega arith) in
-      length-append (over answers (take count out)) (over (historyBytes ws) (drop count out)) ∙ omega (arith, front answers h)
+      let d = length-drop total out in
+      let b = over-length (historyBytes ws) (drop total out) (omega arith) in
+      length-append (over answers (take total out)) (over (historyBytes ws) (drop total out)) ∙ omega (arith, front answers h)
 
   -- one answer more
-  pub filled-answer : (answers : List ℕ) (ws : List Write) (a : ℕ) → length answers < count
-      → set (filled count answers ws out) (length answers) a ≡ filled count (push a answers) ws out
+  pub filled-answer : (answers : List ℕ) (ws : List Write) (a : ℕ) → length answers < total
+      → set (filled total answers ws out) (length answers) a ≡ filled total (push a answers) ws out
   unfolding push
   filled-answer answers ws a h =
-      let n = length-take-le count out fits in
-      set-append-left (over answers (take count out)) (over (historyBytes ws) (drop count out)) (length answers) a (let f = front answers (omega arith) in omega arith)
-      ∙ ap (λ (t : List ℕ). t ++ over (historyBytes ws) (drop count out)) (over-more answers (a ∷ []) (take count out) (omega arith))
+      let n = length-take-le total out fits in
+      set-append-left (over answers (take total out)) (over (historyBytes ws) (drop total out)) (length answers) a (let f = front answers (omega arith) in omega arith)
+      ∙ ap (λ (t : List ℕ). t ++ over (historyBytes ws) (drop total out)) (over-more answers (a ∷ []) (take total out) (omega arith))
 
   -- one entry more
-  pub filled-entry : (answers : List ℕ) (ws : List Write) (w : Write) → length answers ≤ count → count + 4 * length ws + 4 ≤ length out
-      → sets (filled count answers ws out) (count + 4 * length ws) (entryBytes w) ≡ filled count answers (push w ws) out
+  pub filled-entry : (answers : List ℕ) (ws : List Write) (w : Write) → length answers ≤ total → total + 4 * length ws + 4 ≤ length out
+      → sets (filled total answers ws out) (total + 4 * length ws) (entryBytes w) ≡ filled total answers (push w ws) out
   filled-entry answers ws w h k =
-      let d = length-drop count out in
-      ap (λ (i : ℕ). sets (filled count answers ws out) (i + 4 * length ws) (entryBytes w)) (sym (front answers h))
-      ∙ sets-behind (entryBytes w) (over answers (take count out)) (over (historyBytes ws) (drop count out)) (4 * length ws)
-      ∙ ap (λ (t : List ℕ). over answers (take count out) ++ t) (entries-more ws w (drop count out) (omega arith))
+      let d = length-drop total out in
+      ap (λ (i : ℕ). sets (filled total answers ws out) (i + 4 * length ws) (entryBytes w)) (sym (front answers h))
+      ∙ sets-behind (entryBytes w) (over answers (take total out)) (over (historyBytes ws) (drop total out)) (4 * length ws)
+      ∙ ap (λ (t : List ℕ). over answers (take total out) ++ t) (entries-more ws w (drop total out) (omega arith))
 
   -- all answers: the history follows at once, and the bytes after it stay
-  pub filled-all : (answers : List ℕ) (ws : List Write) → length answers ≡ count → filled count answers ws out ≡ over (answers ++ historyBytes ws) out
+  pub filled-all : (answers : List ℕ) (ws : List Write) → length answers ≡ total → filled total answers ws out ≡ over (answers ++ historyBytes ws) out
   filled-all answers ws e =
-      let n = length-take-le count out fits in
-      rw (drop-of-length-le (take count out) {i = length answers} (omega arith), append-nil, drop-drop (length (historyBytes ws)) count out, length-append, e, append-assoc)
+      let n = length-take-le total out fits in
+      rw (drop-of-length-le (take total out) {i = length answers} (omega arith), append-nil, drop-drop (length (historyBytes ws)) total out, length-append, e, append-assoc)

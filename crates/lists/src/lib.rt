@@ -43,13 +43,13 @@ fn refusal(list: &[u8]) -> u8
     }
     let at = length - TRAILER_LENGTH;
     if list[at + 10] != 0x4D {
-        return parts::BAD_TRAILER;
+        return parts::BAD_MARK;
     }
     if list[at + 11] != 0x41 {
-        return parts::BAD_TRAILER;
+        return parts::BAD_MARK;
     }
     if list[at + 9] != 0 {
-        return parts::BAD_TRAILER;
+        return parts::BAD_MARK;
     }
     let nodes = list[at + 8];
     if nodes < 1 {
@@ -59,18 +59,18 @@ fn refusal(list: &[u8]) -> u8
         return parts::BAD_NODE_COUNT;
     }
     let first = number_at(list, at);
-    let count = number_at(list, at + 4);
-    if first + 2 * count + TRAILER_LENGTH == length {
+    let records = number_at(list, at + 4);
+    if first + 2 * records + TRAILER_LENGTH == length {
         return parts::DONE;
     }
-    parts::BAD_SUM
+    parts::BAD_EXTENT
 }
 
 // What the trailer says; all 0 beside a refusal.
 pub struct Trailer {
     pub code: u8,
     pub first: usize,
-    pub count: usize,
+    pub records: usize,
     pub nodes: u8,
 }
 
@@ -81,19 +81,19 @@ pub fn read_trailer(list: &[u8]) -> Trailer
     if code == parts::DONE {
         let at = list.len() - TRAILER_LENGTH;
         let first = number_at(list, at);
-        let count = number_at(list, at + 4);
+        let records = number_at(list, at + 4);
         let nodes = list[at + 8];
         return Trailer {
             code: code,
             first: first,
-            count: count,
+            records: records,
             nodes: nodes,
         };
     }
     Trailer {
         code: code,
         first: 0,
-        count: 0,
+        records: 0,
         nodes: 0,
     }
 }
@@ -166,10 +166,10 @@ pub fn put_entry(part: &mut [u8], at: usize, node: u8, term: Term)
     part[from + 3] = (term.0 / 256) as u8;
 }
 
-// The same into the whole buffer, whose first `count` bytes are the answers.
-pub fn write_entry(out: &mut [u8], count: usize, at: usize, node: u8, term: Term)
-    requires { ⌜ count + 4 * at + 4 ≤ length (now out) ⌝ }
-    ensures { λ _. ⌜ now (out .exit) ≡ sets (now (out .entry)) (count + 4 * at) (entryBytes (record { node = node; term = term .0 })) ⌝ }
+// The same into the whole buffer, whose first `answers` bytes are the answers.
+pub fn write_entry(out: &mut [u8], answers: usize, at: usize, node: u8, term: Term)
+    requires { ⌜ answers + 4 * at + 4 ≤ length (now out) ⌝ }
+    ensures { λ _. ⌜ now (out .exit) ≡ sets (now (out .entry)) (answers + 4 * at) (entryBytes (record { node = node; term = term .0 })) ⌝ }
 {
-    put_entry(&mut out[count..], at, node, term);
+    put_entry(&mut out[answers..], at, node, term);
 }

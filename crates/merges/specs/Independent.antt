@@ -5,32 +5,32 @@ use mathlib.Core.List.{List, [], _∷_, _++_}
 use Prim.Native.Nat.{ℕ}
 use lib.Dec.{eqb}
 use Rattle.rules.specs.Queues.{has}
-use Rattle.rules.specs.Rules.{Kind, classOf}
-use Rattle.rules.specs.Step.{Event, kindOf, called}
+use Rattle.rules.specs.Rules.{Kind, classOf, join, leave, learns, sendUpdate, receiveUpdate, sendWrite, receiveWrite, connect, close, handleUpdate, handleWrite, shutdown, startup}
+use Rattle.rules.specs.Step.{Event, kindOf, numberOf, called}
 
 -- ---- the kinds that the list speaks of, by their numbers
 
 abbrev pub serviceKinds : List ℕ
-serviceKinds = 1 ∷ 2 ∷ []
+serviceKinds = numberOf join ∷ numberOf leave ∷ []
 
 abbrev pub learnKinds : List ℕ
-learnKinds = 3 ∷ []
+learnKinds = numberOf learns ∷ []
 
 abbrev pub sendKinds : List ℕ
-sendKinds = 4 ∷ 6 ∷ []
+sendKinds = numberOf sendUpdate ∷ numberOf sendWrite ∷ []
 
 abbrev pub receiveKinds : List ℕ
-receiveKinds = 5 ∷ 7 ∷ []
-
-abbrev pub switchKinds : List ℕ
-switchKinds = 8 ∷ 9 ∷ 10 ∷ 11 ∷ 12 ∷ 13 ∷ []
+receiveKinds = numberOf receiveUpdate ∷ numberOf receiveWrite ∷ []
 
 -- The steps of the switch on one stream, and those of them that tell no other stream.
 abbrev pub streamKinds : List ℕ
-streamKinds = 8 ∷ 9 ∷ 10 ∷ 11 ∷ []
+streamKinds = numberOf connect ∷ numberOf close ∷ numberOf handleUpdate ∷ numberOf handleWrite ∷ []
 
 abbrev pub quietKinds : List ℕ
-quietKinds = 8 ∷ 11 ∷ []
+quietKinds = numberOf connect ∷ numberOf handleWrite ∷ []
+
+abbrev pub switchKinds : List ℕ
+switchKinds = streamKinds ++ (numberOf shutdown ∷ numberOf startup ∷ [])
 
 abbrev pub messageKinds : List ℕ
 messageKinds = sendKinds ++ receiveKinds

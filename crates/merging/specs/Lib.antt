@@ -1,4 +1,2 @@
--- Believed: Told.
--- Laws: Telling.
-pub mod Told
-pub mod Telling
+pub mod Reply
+pub mod Replies

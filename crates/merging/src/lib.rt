@@ -4,7 +4,7 @@ ghost use Prim.Native.Nat.{_+_, _≤_};
 ghost use lib.ListN.{length};
 ghost use lib.Seq.{sets};
 ghost use Rattle.lists.specs.EventList.{over};
-ghost use Rattle.merging.specs.Told.{placesLength, twoBytes, placeBytes, told};
+ghost use Rattle.merging.specs.Reply.{placesLength, twoBytes, placeBytes, reply};
 use comparing::Finding;
 
 // How many bytes the places take.
@@ -32,13 +32,13 @@ fn put_places(places: &mut [u8], found: Finding)
 // Compares two event lists as merges of the same logs. Returns the verdict, with the places at the front of the buffer and the bytes after them as they were;
 // or the refusal, with every byte of the buffer as it was.
 pub fn same_merge(first: &[u8], second: &[u8], places: &mut [u8]) -> u32
-    ensures { λ r. ⌜ (r ≡ told (now (first .entry)) (now (second .entry)) (now (places .entry)) .returned)
-        × (now (places .exit) ≡ told (now (first .entry)) (now (second .entry)) (now (places .entry)) .places) ⌝ }
+    ensures { λ r. ⌜ (r ≡ reply (now (first .entry)) (now (second .entry)) (now (places .entry)) .returned)
+        × (now (places .exit) ≡ reply (now (first .entry)) (now (second .entry)) (now (places .entry)) .places) ⌝ }
 {
     if places.len() < PLACES {
         let trailer = lists::read_trailer(first);
         if trailer.code == parts::DONE {
-            return parts::BUFFER_SHORT as u32;
+            return parts::OUT_TOO_SHORT as u32;
         }
         return trailer.code as u32;
     }

@@ -7,60 +7,60 @@ use Rattle.rules.specs.State as S
 use Rattle.rules.specs.Parts.{learnPart, sendPart, receivePart, linkPart, servePart, onDevice}
 use Rattle.seqs.specs.Arrays.{column}
 use Rattle.seqs.specs.Columns.{column-at}
-use Rattle.state.specs.Hold.{eventsAt, learnedAt, saysAt, openAt, sentAt, requestsAt, responsesAt, holdCore, holdDesk, holdWire}
-use Rattle.state.specs.Order.{pastNode, pastStream}
+use Rattle.state.specs.Hold.{eventsAt, learnedAt, saysAt, openAt, sentAt, requestsAt, responsesAt, holdCore, holdDesk, holdBoard}
+use Rattle.state.specs.Order.{pastController, pastStream}
 use Rattle.state.specs.Reads.{inboxOf, senderOf, receiverOf, linkedOf, servedOf}
-use Rattle.state.specs.declared.Node.{Node}
+use Rattle.state.specs.declared.Controller.{Controller}
 use Rattle.state.specs.declared.Stream.{Stream}
 use Rattle.state.specs.declared.Body.{Body}
 use Rattle.moves.specs.Bodies.{stateOf}
 
 module _ (b : Body) (n : ℕ) where
-  abbrev pub nodeOf : Node
-  nodeOf = getD (b .core .nodes) (n - 1) pastNode
+  abbrev pub controllerOf : Controller
+  controllerOf = getD (b .core .controllers) (n - 1) pastController
 
   abbrev pub streamOf : Stream
   streamOf = getD (b .core .streams) (n - 1) pastStream
 
 module _ (b : Body) (n : ℕ) (lt : n - 1 < b .count) (history : List S.Write) where
-  in-nodes : {B : Type 0} (f : Node → B) → f (nodeOf b n) ≡ getD (column f (b .count) (b .core .nodes)) (n - 1) (f pastNode)
-  in-nodes f = sym (column-at f (b .count) (n - 1) (b .core .nodes) pastNode lt)
+  in-controllers : {B : Type 0} (f : Controller → B) → f (controllerOf b n) ≡ getD (column f (b .count) (b .core .controllers)) (n - 1) (f pastController)
+  in-controllers f = sym (column-at f (b .count) (n - 1) (b .core .controllers) pastController lt)
 
   in-streams : {B : Type 0} (f : Stream → B) → f (streamOf b n) ≡ getD (column f (b .count) (b .core .streams)) (n - 1) (f pastStream)
   in-streams f = sym (column-at f (b .count) (n - 1) (b .core .streams) pastStream lt)
 
-  pub inbox-read : inboxOf (nodeOf b n) ≡ learnPart n .get (stateOf b history)
+  pub inbox-read : inboxOf (controllerOf b n) ≡ learnPart n .get (stateOf b history)
   unfolding holdCore holdDesk
-  inbox-read = λ j. record { events = in-nodes eventsAt j; learned = in-nodes learnedAt j }
+  inbox-read = λ j. record { events = in-controllers eventsAt j; learned = in-controllers learnedAt j }
 
-  pub sender-read : senderOf (b .count) (nodeOf b n) (streamOf b n) ≡ sendPart n .get (stateOf b history)
-  unfolding holdCore holdWire
+  pub sender-read : senderOf (b .count) (controllerOf b n) (streamOf b n) ≡ sendPart n .get (stateOf b history)
+  unfolding holdCore holdBoard
   sender-read = λ j. record {
     count = b .count;
-    learned = in-nodes learnedAt j;
-    says = in-nodes saysAt j;
+    learned = in-controllers learnedAt j;
+    says = in-controllers saysAt j;
     isOpen = in-streams openAt j;
     sent = in-streams sentAt j;
     requests = in-streams requestsAt j;
   }
 
-  pub receiver-read : receiverOf (b .count) (nodeOf b n) (streamOf b n) ≡ receivePart n .get (stateOf b history)
-  unfolding holdCore holdWire
+  pub receiver-read : receiverOf (b .count) (controllerOf b n) (streamOf b n) ≡ receivePart n .get (stateOf b history)
+  unfolding holdCore holdBoard
   receiver-read = λ j. record {
     count = b .count;
-    learned = in-nodes learnedAt j;
-    says = in-nodes saysAt j;
+    learned = in-controllers learnedAt j;
+    says = in-controllers saysAt j;
     isOpen = in-streams openAt j;
     sent = in-streams sentAt j;
     responses = in-streams responsesAt j;
   }
 
   pub linked-read : linkedOf (b .running) (streamOf b n) ≡ onDevice (linkPart n) .get (stateOf b history)
-  unfolding holdCore holdWire
+  unfolding holdCore holdBoard
   linked-read = λ j. record { running = b .running; isOpen = in-streams openAt j }
 
   pub served-read : servedOf (b .count) n (b .running) (streamOf b n) (b .core .claims) (length history) ≡ onDevice (servePart n) .get (stateOf b history)
-  unfolding holdCore holdWire
+  unfolding holdCore holdBoard
   served-read = let s = onDevice (servePart n) .get (stateOf b history) in λ j. record {
     running = b .running;
     isOpen = in-streams openAt j;

@@ -9,18 +9,18 @@ use Rattle.rules.specs.Limits.{mostNodes}
 use Rattle.rules.specs.State as S
 use Rattle.rules.specs.Parts.{Inbox, Sent, Received, Serving}
 use Rattle.seqs.specs.Tables.{table-get, table-set}
-use Rattle.state.specs.Hold.{packNode, packStream, nodeRow, streamRow, packNodes, packStreams}
+use Rattle.state.specs.Hold.{packController, packStream, controllerRow, streamRow, packControllers, packStreams}
 use Rattle.state.specs.Stores.{storeInbox, storeSent, storeSays, storeReceived, storeOpen, storeServing}
-use Rattle.state.specs.Order.{pastNode, pastStream}
+use Rattle.state.specs.Order.{pastController, pastStream}
 
 -- ---- a row of the arrays
 
-pub node-at : (events : List (List S.Mastership)) (learned : List S.Mastership) (says : List Bool) (i : ℕ) → i < mostNodes
-    → getD (packNodes events learned says) i pastNode ≡ nodeRow events learned says i
-unfolding packNodes
-node-at events learned says i h = table-get mostNodes (nodeRow events learned says) i pastNode h
+pub controller-at : (events : List (List S.Mastership)) (learned : List S.Mastership) (says : List Bool) (i : ℕ) → i < mostNodes
+    → getD (packControllers events learned says) i pastController ≡ controllerRow events learned says i
+unfolding packControllers
+controller-at events learned says i h = table-get mostNodes (controllerRow events learned says) i pastController h
 
-pub stream-at : (w : S.Wire) (i : ℕ) → i < mostNodes → getD (packStreams w) i pastStream ≡ streamRow w i
+pub stream-at : (w : S.Board) (i : ℕ) → i < mostNodes → getD (packStreams w) i pastStream ≡ streamRow w i
 unfolding packStreams
 stream-at w i h = table-get mostNodes (streamRow w) i pastStream h
 
@@ -28,22 +28,22 @@ stream-at w i h = table-get mostNodes (streamRow w) i pastStream h
 
 module _ (events : List (List S.Mastership)) (learned : List S.Mastership) (says : List Bool) (j : ℕ) where
   pub inbox-stored : (w : Inbox) → j < length events → j < length learned
-      → set (packNodes events learned says) j (storeInbox w (nodeRow events learned says j)) ≡ packNodes (set events j (w .events)) (set learned j (w .learned)) says
-  unfolding packNodes
-  inbox-stored w h k = table-set mostNodes (nodeRow events learned says) (nodeRow (set events j (w .events)) (set learned j (w .learned)) says) j (storeInbox w (nodeRow events learned says j))
-      (sym (ap₂ (λ (q : List S.Mastership) (m : S.Mastership). packNode q m (getD says j false)) (getD-set-same events j (w .events) [] h) (getD-set-same learned j (w .learned) S.blank k)))
-      (λ i z. ap₂ (λ (q : List S.Mastership) (m : S.Mastership). packNode q m (getD says i false)) (getD-set-other events j i (w .events) [] z) (getD-set-other learned j i (w .learned) S.blank z))
+      → set (packControllers events learned says) j (storeInbox w (controllerRow events learned says j)) ≡ packControllers (set events j (w .events)) (set learned j (w .learned)) says
+  unfolding packControllers
+  inbox-stored w h k = table-set mostNodes (controllerRow events learned says) (controllerRow (set events j (w .events)) (set learned j (w .learned)) says) j (storeInbox w (controllerRow events learned says j))
+      (sym (ap₂ (λ (q : List S.Mastership) (m : S.Mastership). packController q m (getD says j false)) (getD-set-same events j (w .events) [] h) (getD-set-same learned j (w .learned) S.blank k)))
+      (λ i z. ap₂ (λ (q : List S.Mastership) (m : S.Mastership). packController q m (getD says i false)) (getD-set-other events j i (w .events) [] z) (getD-set-other learned j i (w .learned) S.blank z))
 
   pub says-stored : (w : Received) → j < length says
-      → set (packNodes events learned says) j (storeSays w (nodeRow events learned says j)) ≡ packNodes events learned (set says j (w .says))
-  unfolding packNodes
-  says-stored w h = table-set mostNodes (nodeRow events learned says) (nodeRow events learned (set says j (w .says))) j (storeSays w (nodeRow events learned says j))
-      (sym (ap (packNode (getD events j []) (getD learned j S.blank)) (getD-set-same says j (w .says) false h)))
-      (λ i z. ap (packNode (getD events i []) (getD learned i S.blank)) (getD-set-other says j i (w .says) false z))
+      → set (packControllers events learned says) j (storeSays w (controllerRow events learned says j)) ≡ packControllers events learned (set says j (w .says))
+  unfolding packControllers
+  says-stored w h = table-set mostNodes (controllerRow events learned says) (controllerRow events learned (set says j (w .says))) j (storeSays w (controllerRow events learned says j))
+      (sym (ap (packController (getD events j []) (getD learned j S.blank)) (getD-set-same says j (w .says) false h)))
+      (λ i z. ap (packController (getD events i []) (getD learned i S.blank)) (getD-set-other says j i (w .says) false z))
 
 -- ---- one row of the streams
 
-module _ (w : S.Wire) (j : ℕ) where
+module _ (w : S.Board) (j : ℕ) where
   pub sent-stored : (v : Sent) → j < length (w .sent) → j < length (w .requests)
       → set (packStreams w) j (storeSent v (streamRow w j)) ≡ packStreams (record {
         opens = w .opens;

@@ -14,18 +14,18 @@ use Rattle.seqs.specs.Arrays.{column}
 use Rattle.parts.specs.Hold.{packMastership}
 use Rattle.parts.specs.Ordered.{OrderedMastership}
 use Rattle.parts.specs.declared.Mastership.{Mastership}
-use Rattle.state.specs.Hold.{eventsAt, learnedAt, saysAt, nodeRow, streamRow, packNodes, packStreams, packClaims, packCore, holdCore, holdDesk, holdWire, represent}
-use Rattle.state.specs.Order.{OrderedNodes, OrderedWire, pastNode, pastStream}
+use Rattle.state.specs.Hold.{eventsAt, learnedAt, saysAt, controllerRow, streamRow, packControllers, packStreams, packClaims, packCore, holdCore, holdDesk, holdBoard, represent}
+use Rattle.state.specs.Order.{OrderedControllers, OrderedBoard, pastController, pastStream}
 use Rattle.state.specs.Stores.{storeEvents, storeInbox, storeSent, storeSays, storeReceived, storeOpen, storeTelling, storeServing}
-use Rattle.state.specs.declared.Node.{Node}
+use Rattle.state.specs.declared.Controller.{Controller}
 use Rattle.state.specs.declared.Stream.{Stream}
 use Rattle.state.specs.declared.Claims.{Claims}
 use Rattle.state.specs.declared.Body.{Body}
-use Rattle.bridge.specs.InOrder.{ordered-nodes, ordered-wire, ordered-service}
+use Rattle.bridge.specs.InOrder.{ordered-controllers, ordered-board, ordered-service}
 use Rattle.moves.specs.Bodies.{stateOf, bodyOf, Ready}
-use Rattle.moves.specs.Gets.{nodeOf, streamOf}
-use Rattle.moves.specs.Sets.{withDesk, withNode, withWire, withStream, withLast}
-use Rattle.moves.specs.Puts.{node-at, stream-at, inbox-stored, says-stored, sent-stored, received-stored, open-stored, serving-stored}
+use Rattle.moves.specs.Gets.{controllerOf, streamOf}
+use Rattle.moves.specs.Sets.{withDesk, withController, withBoard, withStream, withLast}
+use Rattle.moves.specs.Puts.{controller-at, stream-at, inbox-stored, says-stored, sent-stored, received-stored, open-stored, serving-stored}
 
 module _ (b : Body) (ready : Ready b) where
   abbrev pub heldCore : S.Core
@@ -37,13 +37,13 @@ module _ (b : Body) (ready : Ready b) where
   pub few : b .count ≤ mostNodes
   few = range-sound (stateOf b []) (ready .fits) .count .upper
 
-  pub in-order-nodes : OrderedNodes (b .count) (b .core .nodes)
+  pub in-order-controllers : OrderedControllers (b .count) (b .core .controllers)
   unfolding represent
-  in-order-nodes = rw (ap (λ (x : Body). x .core .nodes) (ready .same)) at (ordered-nodes (stateOf b []) (ready .fits))
+  in-order-controllers = rw (ap (λ (x : Body). x .core .controllers) (ready .same)) at (ordered-controllers (stateOf b []) (ready .fits))
 
-  pub in-order-wire : OrderedWire (b .count) (b .core .streams) (b .core .claims)
+  pub in-order-board : OrderedBoard (b .count) (b .core .streams) (b .core .claims)
   unfolding represent
-  in-order-wire = subst (λ (x : Body). OrderedWire (b .count) (x .core .streams) (x .core .claims)) (ready .same) (ordered-wire (stateOf b []) (ready .fits))
+  in-order-board = subst (λ (x : Body). OrderedBoard (b .count) (x .core .streams) (x .core .claims)) (ready .same) (ordered-board (stateOf b []) (ready .fits))
 
   pub in-order-service : OrderedMastership (b .core .service)
   unfolding represent
@@ -53,40 +53,40 @@ module _ (b : Body) (ready : Ready b) where
   unfolding packCore
   service-same = ap (λ (x : Body). x .core .service) (sym (ready .same))
 
-  nodes-same : b .core .nodes ≡ packNodes (heldCore .desk .events) (heldCore .learned) (heldCore .says)
+  controllers-same : b .core .controllers ≡ packControllers (heldCore .desk .events) (heldCore .learned) (heldCore .says)
   unfolding packCore
-  nodes-same = ap (λ (x : Body). x .core .nodes) (sym (ready .same))
+  controllers-same = ap (λ (x : Body). x .core .controllers) (sym (ready .same))
 
-  streams-same : b .core .streams ≡ packStreams (heldCore .wire)
+  streams-same : b .core .streams ≡ packStreams (heldCore .board)
   unfolding packCore
   streams-same = ap (λ (x : Body). x .core .streams) (sym (ready .same))
 
-  claims-same : b .core .claims ≡ packClaims (heldCore .wire)
+  claims-same : b .core .claims ≡ packClaims (heldCore .board)
   unfolding packCore
   claims-same = ap (λ (x : Body). x .core .claims) (sym (ready .same))
 
   -- A body is that of a state if each of its four parts is.
-  body-is : (running : Bool) (c : S.Core) {service : Mastership} {nodes : List Node} {streams : List Stream} {claims : Claims}
-      → service ≡ packMastership (c .desk .service) → nodes ≡ packNodes (c .desk .events) (c .learned) (c .says) → streams ≡ packStreams (c .wire) → claims ≡ packClaims (c .wire)
-      → _≡_ {A = Body} (record { count = b .count; running = running; core = record { service = service; nodes = nodes; streams = streams; claims = claims } })
+  body-is : (running : Bool) (c : S.Core) {service : Mastership} {controllers : List Controller} {streams : List Stream} {claims : Claims}
+      → service ≡ packMastership (c .desk .service) → controllers ≡ packControllers (c .desk .events) (c .learned) (c .says) → streams ≡ packStreams (c .board) → claims ≡ packClaims (c .board)
+      → _≡_ {A = Body} (record { count = b .count; running = running; core = record { service = service; controllers = controllers; streams = streams; claims = claims } })
       (record { count = b .count; running = running; core = packCore c })
   unfolding packCore
-  body-is running c e f g h = λ i. record { count = b .count; running = running; core = record { service = e i; nodes = f i; streams = g i; claims = h i } }
+  body-is running c e f g h = λ i. record { count = b .count; running = running; core = record { service = e i; controllers = f i; streams = g i; claims = h i } }
 
   module _ (history : List S.Write) where
     -- ---- whole columns
 
-    pub desk-stored : (d : S.Desk) → withDesk (packMastership (d .service)) (storeEvents (d .events) (b .count) (b .core .nodes)) b ≡ bodyOf (servicePart .put d (stateOf b history))
+    pub desk-stored : (d : S.Desk) → withDesk (packMastership (d .service)) (storeEvents (d .events) (b .count) (b .core .controllers)) b ≡ bodyOf (servicePart .put d (stateOf b history))
     unfolding holdCore
     desk-stored d = body-is (b .running) _ refl refl streams-same claims-same
 
     pub telling-stored : (n : ℕ) (v : Telling) → let w = storeTelling n v (b .count) (b .core .streams) (b .core .claims) in
-        withWire (b .running) (w .streams) (w .claims) b ≡ bodyOf (onDevice (tellPart n) .put v (stateOf b history))
+        withBoard (b .running) (w .streams) (w .claims) b ≡ bodyOf (onDevice (tellPart n) .put v (stateOf b history))
     unfolding holdCore storeTelling
-    telling-stored n v = body-is (b .running) _ service-same nodes-same refl refl
+    telling-stored n v = body-is (b .running) _ service-same controllers-same refl refl
 
-    pub power-stored : (v : Power) → withWire (v .running) (packStreams (v .wire)) (packClaims (v .wire)) b ≡ bodyOf (onDevice powerPart .put v (stateOf b history))
-    power-stored v = body-is (v .running) _ service-same nodes-same refl refl
+    pub power-stored : (v : Power) → withBoard (v .running) (packStreams (v .board)) (packClaims (v .board)) b ≡ bodyOf (onDevice powerPart .put v (stateOf b history))
+    power-stored v = body-is (v .running) _ service-same controllers-same refl refl
 
     -- ---- rows
 
@@ -94,33 +94,33 @@ module _ (b : Body) (ready : Ready b) where
       abbrev j : ℕ
       j = n - 1
 
-      abbrev w : S.Wire
-      w = holdWire (b .count) (b .core .streams) (b .core .claims)
+      abbrev w : S.Board
+      w = holdBoard (b .count) (b .core .streams) (b .core .claims)
 
       abbrev events : List (List S.Mastership)
-      events = column eventsAt (b .count) (b .core .nodes)
+      events = column eventsAt (b .count) (b .core .controllers)
 
       abbrev learned : List S.Mastership
-      learned = column learnedAt (b .count) (b .core .nodes)
+      learned = column learnedAt (b .count) (b .core .controllers)
 
       abbrev says : List Bool
-      says = column saysAt (b .count) (b .core .nodes)
+      says = column saysAt (b .count) (b .core .controllers)
 
       place : j < mostNodes
       place = let f = few in omega arith
 
-      node-is : nodeOf b n ≡ nodeRow events learned says j
+      controller-is : controllerOf b n ≡ controllerRow events learned says j
       unfolding holdCore holdDesk
-      node-is = ap (λ (l : List Node). getD l j pastNode) nodes-same ∙ node-at events learned says j place
+      controller-is = ap (λ (l : List Controller). getD l j pastController) controllers-same ∙ controller-at events learned says j place
 
       stream-is : streamOf b n ≡ streamRow w j
       unfolding holdCore holdDesk
       stream-is = ap (λ (l : List Stream). getD l j pastStream) streams-same ∙ stream-at w j place
 
       -- a row of an array, by the row of the table that it is
-      in-nodes : (f : Node → Node) (l : List Node) → set (packNodes events learned says) j (f (nodeRow events learned says j)) ≡ l → set (b .core .nodes) j (f (nodeOf b n)) ≡ l
+      in-controllers : (f : Controller → Controller) (l : List Controller) → set (packControllers events learned says) j (f (controllerRow events learned says j)) ≡ l → set (b .core .controllers) j (f (controllerOf b n)) ≡ l
       unfolding holdCore holdDesk
-      in-nodes f l e = ap₂ (λ (k : List Node) (r : Node). set k j (f r)) nodes-same node-is ∙ e
+      in-controllers f l e = ap₂ (λ (k : List Controller) (r : Controller). set k j (f r)) controllers-same controller-is ∙ e
 
       in-streams : (f : Stream → Stream) (l : List Stream) → set (packStreams w) j (f (streamRow w j)) ≡ l → set (b .core .streams) j (f (streamOf b n)) ≡ l
       unfolding holdCore holdDesk
@@ -129,30 +129,30 @@ module _ (b : Body) (ready : Ready b) where
       wide : {A : Type 0} (l : List A) → length l ≡ b .count → j < length l
       wide l e = let k : length l ≡ b .count = e in omega arith
 
-      pub inbox-stored-at : (v : Inbox) → withNode n (storeInbox v (nodeOf b n)) b ≡ bodyOf (learnPart n .put v (stateOf b history))
+      pub inbox-stored-at : (v : Inbox) → withController n (storeInbox v (controllerOf b n)) b ≡ bodyOf (learnPart n .put v (stateOf b history))
       unfolding holdCore holdDesk
       inbox-stored-at v = body-is (b .running) _ service-same
-          (in-nodes (storeInbox v) _ (inbox-stored events learned says j v (wide events (fits-core .desk .size)) (wide learned (fits-core .learned-size)))) streams-same claims-same
+          (in-controllers (storeInbox v) _ (inbox-stored events learned says j v (wide events (fits-core .desk .size)) (wide learned (fits-core .learned-size)))) streams-same claims-same
 
       pub sent-stored-at : (v : Sent) → withStream n (storeSent v (streamOf b n)) b ≡ bodyOf (sendPart n .put v (stateOf b history))
       unfolding holdCore packClaims
-      sent-stored-at v = body-is (b .running) _ service-same nodes-same
-          (in-streams (storeSent v) _ (sent-stored w j v (wide (w .sent) (fits-core .wire .sent-size)) (wide (w .requests) (fits-core .wire .requests-size)))) claims-same
+      sent-stored-at v = body-is (b .running) _ service-same controllers-same
+          (in-streams (storeSent v) _ (sent-stored w j v (wide (w .sent) (fits-core .board .sent-size)) (wide (w .requests) (fits-core .board .requests-size)))) claims-same
 
       pub received-stored-at : (v : Received)
-          → withNode n (storeSays v (nodeOf b n)) (withStream n (storeReceived v (streamOf b n)) b) ≡ bodyOf (receivePart n .put v (stateOf b history))
+          → withController n (storeSays v (controllerOf b n)) (withStream n (storeReceived v (streamOf b n)) b) ≡ bodyOf (receivePart n .put v (stateOf b history))
       unfolding holdCore holdDesk packClaims
       received-stored-at v = body-is (b .running) _ service-same
-          (in-nodes (storeSays v) _ (says-stored events learned says j v (wide says (fits-core .says-size))))
-          (in-streams (storeReceived v) _ (received-stored w j v (wide (w .responses) (fits-core .wire .responses-size)))) claims-same
+          (in-controllers (storeSays v) _ (says-stored events learned says j v (wide says (fits-core .says-size))))
+          (in-streams (storeReceived v) _ (received-stored w j v (wide (w .responses) (fits-core .board .responses-size)))) claims-same
 
       pub open-stored-at : (v : Bool) → withStream n (storeOpen v (streamOf b n)) b ≡ bodyOf (onDevice (linkPart n) .put v (stateOf b history))
       unfolding holdCore packClaims
-      open-stored-at v = body-is (b .running) _ service-same nodes-same (in-streams (storeOpen v) _ (open-stored w j v (wide (w .opens) (fits-core .wire .opens-size)))) claims-same
+      open-stored-at v = body-is (b .running) _ service-same controllers-same (in-streams (storeOpen v) _ (open-stored w j v (wide (w .opens) (fits-core .board .opens-size)))) claims-same
 
       pub serving-stored-at : (v : Serving)
           → withLast (record { 0 = v .last }) (withStream n (storeServing v (streamOf b n)) b) ≡ bodyOf (onDevice (servePart n) .put v (stateOf b history))
       unfolding holdCore packClaims
-      serving-stored-at v = body-is (b .running) _ service-same nodes-same
-          (in-streams (storeServing v) _ (serving-stored w j v (wide (w .requests) (fits-core .wire .requests-size)) (wide (w .responses) (fits-core .wire .responses-size))))
+      serving-stored-at v = body-is (b .running) _ service-same controllers-same
+          (in-streams (storeServing v) _ (serving-stored w j v (wide (w .requests) (fits-core .board .requests-size)) (wide (w .responses) (fits-core .board .responses-size))))
           (λ i. record { ids = claims-same i .ids; terms = claims-same i .terms; last = record { 0 = v .last } })

@@ -23,9 +23,9 @@ use Rattle.parts.specs.declared.Response.{Response}
 use Rattle.parts.specs.declared.EventQueue.{EventQueue}
 use Rattle.parts.specs.declared.ResponseQueue.{ResponseQueue}
 use Rattle.parts.specs.declared.Message.{Message}
-use Rattle.state.specs.Order.{OrderedNode, OrderedStream}
+use Rattle.state.specs.Order.{OrderedController, OrderedStream}
 use Rattle.state.specs.Reads.{inboxOf, senderOf, receiverOf}
-use Rattle.state.specs.declared.Node.{Node}
+use Rattle.state.specs.declared.Controller.{Controller}
 use Rattle.state.specs.declared.Stream.{Stream}
 use Rattle.nodes.specs.Waiting.{updateWaits, writeWaits, Waits}
 
@@ -60,7 +60,7 @@ update-or-write S.write = refl
 
 -- ---- 3 Learn
 
-module _ (r : Node) (o : OrderedNode r) where
+module _ (r : Controller) (o : OrderedController r) where
   pub learn-none : r .events .len ≡ 0 → false ≡ learnRule .allowed (inboxOf r)
   unfolding learnRule
   learn-none e = simp (empty-held noMastership packMastership holdMastership (eventsQueue (r .events)) (o .events), eq-eqb (r .events .len) 0 e)
@@ -100,7 +100,7 @@ no-third true true c d e = simp e
 no-third true false c d e = refl
 no-third false b c d e = refl
 
-module _ (count n : ℕ) (r : Node) (s : Stream) (h : Waits s) where
+module _ (count n : ℕ) (r : Controller) (s : Stream) (h : Waits s) where
   head : Response
   head = getD (s .responses .items) 0 noResponse
 
@@ -145,7 +145,7 @@ module _ (count n : ℕ) (r : Node) (s : Stream) (h : Waits s) where
 
 -- ---- 4, 6 Send
 
-module _ (count n : ℕ) (r : Node) (s : Stream) where
+module _ (count n : ℕ) (r : Controller) (s : Stream) where
   pub update-sent : r .learned .term .0 ≤ s .sent .0 → false ≡ sendUpdateRule n .allowed (senderOf count r s)
   unfolding sendUpdateRule
   update-sent h = sym (no-third (s .opened) (ltb 0 (r .learned .term .0)) _ (named n (holdMastership (r .learned))) (le-ltb (s .sent .0) (r .learned .term .0) h))

@@ -5,7 +5,7 @@ ghost use lib.Dec.{leb};
 ghost use Rattle.rules.specs.Limits.{queueLength};
 ghost use Rattle.rules.specs.Rules.{learnRule, sendUpdateRule, receiveUpdateRule, sendWriteRule, isWrite, isOk};
 ghost use Rattle.parts.specs.Hold.{holdMessage, holdStatus};
-ghost use Rattle.state.specs.Order.{OrderedNode, OrderedStream};
+ghost use Rattle.state.specs.Order.{OrderedController, OrderedStream};
 ghost use Rattle.state.specs.Reads.{inboxOf, senderOf, receiverOf};
 ghost use Rattle.state.specs.Stores.{storeInbox, storeSent};
 ghost use Rattle.nodes.specs.Waiting.{sendAnswer, Waits, updateWaits, writeWaits, received};
@@ -14,35 +14,35 @@ use parts::Request;
 use parts::Status;
 use parts::election_id;
 use parts::term_of;
-use state::Node;
+use state::Controller;
 use state::Stream;
 
 // 3 Learn: whether the rule allows it.
-pub fn may_learn(node: Node) -> bool
-    requires { ⌜ OrderedNode node ⌝ }
-    ensures { λ r. ⌜ r ≡ learnRule .allowed (inboxOf node) ⌝ }
+pub fn may_learn(controller: Controller) -> bool
+    requires { ⌜ OrderedController controller ⌝ }
+    ensures { λ r. ⌜ r ≡ learnRule .allowed (inboxOf controller) ⌝ }
 {
-    let events = node.events;
+    let events = controller.events;
     if events.len == 0 {
         return false;
     }
     let head = events.items[0];
-    let learned = node.learned;
+    let learned = controller.learned;
     learned.term.0 <= head.term.0
 }
 
 // 3 Learn: the head of the events becomes the learned mastership.
-pub fn learn(node: Node) -> Node
-    requires { ⌜ OrderedNode node ⌝ }
-    ensures { λ r. ⌜ r ≡ storeInbox (learnRule .effect (inboxOf node)) node ⌝ }
+pub fn learn(controller: Controller) -> Controller
+    requires { ⌜ OrderedController controller ⌝ }
+    ensures { λ r. ⌜ r ≡ storeInbox (learnRule .effect (inboxOf controller)) controller ⌝ }
 {
-    let events = node.events;
+    let events = controller.events;
     let head = events.items[0];
     let rest = events.pop();
-    Node {
+    Controller {
         events: rest,
         learned: head,
-        says: node.says,
+        says: controller.says,
     }
 }
 
@@ -61,26 +61,26 @@ pub fn send_code(allowed: bool, stream: Stream) -> u8
 }
 
 // 4 Send update: whether the rule allows it.
-pub fn may_send_update(count: u8, number: u8, node: Node, stream: Stream) -> bool
-    ensures { λ r. ⌜ r ≡ sendUpdateRule number .allowed (senderOf count node stream) ⌝ }
+pub fn may_send_update(count: u8, node: u8, controller: Controller, stream: Stream) -> bool
+    ensures { λ r. ⌜ r ≡ sendUpdateRule node .allowed (senderOf count controller stream) ⌝ }
 {
-    let learned = node.learned;
+    let learned = controller.learned;
     if stream.opened {
         if stream.sent.0 < learned.term.0 {
-            return learned.names(number);
+            return learned.names(node);
         }
     }
     false
 }
 
 // 4 Send update: the request goes last, and its term is the one last sent.
-pub fn send_update(count: u8, number: u8, node: Node, stream: Stream) -> Stream
+pub fn send_update(count: u8, node: u8, controller: Controller, stream: Stream) -> Stream
     requires { ⌜ OrderedStream stream × (leb queueLength (stream .requests .len) ≡ false) ⌝ }
-    ensures { λ r. ⌜ r ≡ storeSent (sendUpdateRule number .effect (senderOf count node stream)) stream ⌝ }
+    ensures { λ r. ⌜ r ≡ storeSent (sendUpdateRule node .effect (senderOf count controller stream)) stream ⌝ }
 {
-    let learned = node.learned;
+    let learned = controller.learned;
     let term = learned.term;
-    let place = learned.place_of(number);
+    let place = learned.place_of(node);
     let id = election_id(count, term, place);
     let requests = stream.requests;
     let request = Request {
@@ -95,14 +95,14 @@ pub fn send_update(count: u8, number: u8, node: Node, stream: Stream) -> Stream
 }
 
 // 6 Send write: whether the rule allows it.
-pub fn may_send_write(count: u8, number: u8, node: Node, stream: Stream) -> bool
-    ensures { λ r. ⌜ r ≡ sendWriteRule number .allowed (senderOf count node stream) ⌝ }
+pub fn may_send_write(count: u8, node: u8, controller: Controller, stream: Stream) -> bool
+    ensures { λ r. ⌜ r ≡ sendWriteRule node .allowed (senderOf count controller stream) ⌝ }
 {
-    let learned = node.learned;
+    let learned = controller.learned;
     if stream.opened {
         if 0 < learned.term.0 {
-            if learned.master == number {
-                return node.says;
+            if learned.master == node {
+                return controller.says;
             }
         }
     }
@@ -110,11 +110,11 @@ pub fn may_send_write(count: u8, number: u8, node: Node, stream: Stream) -> bool
 }
 
 // 6 Send write: the request goes last.
-pub fn send_write(count: u8, number: u8, node: Node, stream: Stream) -> Stream
+pub fn send_write(count: u8, node: u8, controller: Controller, stream: Stream) -> Stream
     requires { ⌜ OrderedStream stream × (leb queueLength (stream .requests .len) ≡ false) ⌝ }
-    ensures { λ r. ⌜ r ≡ storeSent (sendWriteRule number .effect (senderOf count node stream)) stream ⌝ }
+    ensures { λ r. ⌜ r ≡ storeSent (sendWriteRule node .effect (senderOf count controller stream)) stream ⌝ }
 {
-    let learned = node.learned;
+    let learned = controller.learned;
     let term = learned.term;
     let id = election_id(count, term, 0);
     let requests = stream.requests;
@@ -169,15 +169,15 @@ pub fn may_receive_update(stream: Stream) -> bool
 }
 
 // 5 Receive update: the flag that the head of the responses leaves.
-pub fn confirmed(count: u8, number: u8, node: Node, stream: Stream) -> bool
+pub fn confirmed(count: u8, node: u8, controller: Controller, stream: Stream) -> bool
     requires { ⌜ Waits stream ⌝ }
-    ensures { λ r. ⌜ r ≡ receiveUpdateRule number .effect (receiverOf count node stream) .says ⌝ }
+    ensures { λ r. ⌜ r ≡ receiveUpdateRule node .effect (receiverOf count controller stream) .says ⌝ }
 {
     let responses = stream.responses;
     let head = responses.items[0];
-    let learned = node.learned;
+    let learned = controller.learned;
     let id = head.id;
-    if learned.master == number {
+    if learned.master == node {
         if stream.sent.0 == learned.term.0 {
             let term = term_of(count, id);
             if term.0 == learned.term.0 {

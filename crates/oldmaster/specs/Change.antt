@@ -21,7 +21,7 @@ pub record Row : Type 0 where
 
 -- Node i + 1 has place i; past the end nothing waits and nothing is held.
 abbrev pub rowAt : State → ℕ → Row
-rowAt s i = let w = s .core .wire in
+rowAt s i = let w = s .core .board in
     record { learned = getD (s .core .learned) i blank; requests = getD (w .requests) i []; id = getD (w .ids) i 0; term = getD (w .terms) i 0 }
 
 abbrev pub eventsAt : State → ℕ → List Mastership
@@ -31,7 +31,7 @@ abbrev pub serviceOf : State → Mastership
 serviceOf s = s .core .desk .service
 
 abbrev pub lastOf : State → ℕ
-lastOf s = s .core .wire .last
+lastOf s = s .core .board .last
 
 -- The id of a term's master, among `count` nodes.
 abbrev pub mastersId : ℕ → ℕ → ℕ

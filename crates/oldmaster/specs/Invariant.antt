@@ -10,7 +10,7 @@ use Rattle.rules.specs.Ids.{electionId}
 use Rattle.rules.specs.Step.{Event}
 use Rattle.laws.specs.All.{All}
 use Rattle.laws.specs.Lists.{all-each, all-append, all-push}
-use Rattle.oldmaster.specs.KeptOut.{Rising}
+use Rattle.oldmaster.specs.KeptOut.{NeverFalls}
 use Rattle.oldmaster.specs.Change.{Row, rowAt, eventsAt, serviceOf, lastOf, mastersId, Follows, begins, stays, Sent, an-update, a-write, RowChange, same, learns, sends, shut, takes, handles, Accepts, HistoryChange, kept, accepts, Change}
 
 -- The master that a mastership names, as a write by it would have it.
@@ -41,7 +41,7 @@ pub record HistoryLaw (F : Write → Type 0) (last : ℕ) (h : List Write) : Typ
   pub node : All (λ w. 1 ≤ w .node) h
   pub named : All F h
   pub below : All (λ w. w .term ≤ last) h
-  pub rising : Rising h
+  pub never-falls : NeverFalls h
 
 pub record Lawful (F : Write → Type 0) (s : State) : Type 0 where
   -- For a term one master is named, and none for a term yet to come.
@@ -72,9 +72,9 @@ unfolding push
 climbs-push low [] r high e c = (omega arith, omega arith)
 climbs-push low (x ∷ q) r high e c = (c .0, climbs-push (x .term) q r high e (c .1))
 
-rising-push : (w : Write) (l : List Write) → All (λ x. x .term ≤ w .term) l → Rising l → Rising (l ++ (w ∷ []))
-rising-push w [] a r = (tt, tt)
-rising-push w (x ∷ l) a r = (all-append (λ y. x .term ≤ y .term) l (w ∷ []) (r .0) (a .0, tt), rising-push w l (a .1) (r .1))
+never-falls-push : (w : Write) (l : List Write) → All (λ x. x .term ≤ w .term) l → NeverFalls l → NeverFalls (l ++ (w ∷ []))
+never-falls-push w [] a r = (tt, tt)
+never-falls-push w (x ∷ l) a r = (all-append (λ y. x .term ≤ y .term) l (w ∷ []) (r .0) (a .0, tt), never-falls-push w l (a .1) (r .1))
 
 -- ---- a row
 
@@ -132,7 +132,7 @@ module _ {F : Write → Type 0} {e : Event} {s t : State} (rows : (i : ℕ) → 
         rw node at ((rw (a .head) at (rows (e .node - 1) .requests)) .0 .write-named (a .is-write))
 
   history-changed : HistoryLaw F (lastOf s) (s .history) → HistoryChange e s t → HistoryLaw F (lastOf t) (t .history)
-  history-changed h (kept same-history same-last) = rw same-history (record { node = h .node; named = h .named; below = below-more h (lastOf t) (omega arith); rising = h .rising })
+  history-changed h (kept same-history same-last) = rw same-history (record { node = h .node; named = h .named; below = below-more h (lastOf t) (omega arith); never-falls = h .never-falls })
   history-changed h (accepts a) =
       let agree = accepted-term a in
       let current = a .by-term in
@@ -141,7 +141,7 @@ module _ {F : Write → Type 0} {e : Event} {s t : State} (rows : (i : ℕ) → 
         node = all-append (λ w. 1 ≤ w .node) (s .history) _ (h .node) (a .node, tt);
         named = all-append F (s .history) _ (h .named) (accepted-named a, tt);
         below = all-append (λ w. w .term ≤ lastOf t) (s .history) _ (below-more h (lastOf t) (omega arith)) (omega arith, tt);
-        rising = rising-push _ (s .history) (below-more h (a .request .term) (omega arith)) (h .rising);
+        never-falls = never-falls-push _ (s .history) (below-more h (a .request .term) (omega arith)) (h .never-falls);
       })
 
 -- ---- every change
@@ -165,7 +165,7 @@ module _ {F G : Write → Type 0} {m : Mastership} (g : Also F G m) where
   }
 
   history-still : {last : ℕ} {h : List Write} → HistoryLaw F last h → HistoryLaw G last h
-  history-still {h = h} k = record { node = k .node; named = all-each (g .before) h (k .named); below = k .below; rising = k .rising }
+  history-still {h = h} k = record { node = k .node; named = all-each (g .before) h (k .named); below = k .below; never-falls = k .never-falls }
 
 pub lawful-step : {F G : Write → Type 0} {e : Event} {s t : State} → t .count ≡ s .count → F (by (serviceOf s)) → Also F G (serviceOf t) → Lawful F s → Change e s t → Lawful G t
 lawful-step {F} {G} {e} {s} {t} n says g h c = record {

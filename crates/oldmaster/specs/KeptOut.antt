@@ -26,11 +26,11 @@ historyAfter count es = stateAfter count es .history
 
 -- The term that the first waiting request of node n carries.
 abbrev pub ownTerm : State → ℕ → ℕ
-ownTerm s n = first noRequest (getD (s .core .wire .requests) (n - 1) []) .term
+ownTerm s n = first noRequest (getD (s .core .board .requests) (n - 1) []) .term
 
 -- The term that the switch holds of node n.
 abbrev pub switchTerm : State → ℕ → ℕ
-switchTerm s n = getD (s .core .wire .terms) (n - 1) 0
+switchTerm s n = getD (s .core .board .terms) (n - 1) 0
 
 -- ---- what is said of a write in the history
 
@@ -65,14 +65,14 @@ pub record Accepted (count : ℕ) (es : List Event) (old : List Write) (w : Writ
 -- ---- the statement
 
 -- No term is below one before it.
-abbrev pub Rising : List Write → Type 0
-Rising [] = Unit {0}
-Rising (x ∷ l) = All (λ y. x .term ≤ y .term) l × Rising l
+abbrev pub NeverFalls : List Write → Type 0
+NeverFalls [] = Unit {0}
+NeverFalls (x ∷ l) = All (λ y. x .term ≤ y .term) l × NeverFalls l
 
 -- Of the writes h, after the steps es from a fresh state.
 pub record KeptOut (count : ℕ) (es : List Event) (h : List Write) : Type 0 where
   -- No write has a lower term than one before it.
-  pub rising : Rising h
+  pub never-falls : NeverFalls h
   -- The writes of one term are all by one node.
   pub one-node : (x y : Write) → List·Memᴰ x h → List·Memᴰ y h → x .term ≡ y .term → x .node ≡ y .node
   -- The service named that node master for the term, and never another.

@@ -7,11 +7,11 @@ use native.Mathlib.Omega.{arith}
 use lib.Dec.{T, eqb}
 use Rattle.rules.specs.State.{Write, State}
 use Rattle.rules.specs.Range.{inRange}
-use Rattle.rules.specs.Parts.{withCore, withWire}
+use Rattle.rules.specs.Parts.{withCore, withBoard}
 use Rattle.rules.specs.Step.{Event, ofState, fresh}
 use Rattle.laws.specs.Computed.{computed}
 use Rattle.situations.specs.Names.{Join, Leave, Learn, SendUpdate, ReceiveUpdate, SendWrite, Connect, Close, HandleUpdate, HandleWrite, Shutdown, Startup, by}
-use Rattle.oldmaster.specs.KeptOut.{historyAfter, Rising}
+use Rattle.oldmaster.specs.KeptOut.{historyAfter, NeverFalls}
 
 -- ---- the mistakes
 
@@ -25,7 +25,7 @@ properly e s = ofState true e s .state
 
 -- The state with these ids and this last accepted term.
 abbrev holding : List ℕ → ℕ → State → State
-holding ids last s = let w = s .core .wire in withCore (withWire (record {
+holding ids last s = let w = s .core .board in withCore (withBoard (record {
   opens = w .opens;
   sent = w .sent;
   requests = w .requests;
@@ -37,19 +37,19 @@ holding ids last s = let w = s .core .wire in withCore (withWire (record {
 
 -- A write is judged by its id alone: there is no last accepted term to test.
 abbrev byIdAlone : Stepping
-byIdAlone e s = properly e (holding (s .core .wire .ids) 0 s)
+byIdAlone e s = properly e (holding (s .core .board .ids) 0 s)
 
 -- An accepted write does not raise the last accepted term.
 abbrev notRaised : Stepping
-notRaised e s = let t = properly e s in holding (t .core .wire .ids) (s .core .wire .last) t
+notRaised e s = let t = properly e s in holding (t .core .board .ids) (s .core .board .last) t
 
 -- A shutdown forgets it.
 abbrev forgotten : Stepping
-forgotten e s = let t = properly e s in cond (eqb (e .kind) 12) (holding (t .core .wire .ids) 0 t) t
+forgotten e s = let t = properly e s in cond (eqb (e .kind) 12) (holding (t .core .board .ids) 0 t) t
 
 -- A closed stream's id stays.
 abbrev idStays : Stepping
-idStays e s = let t = properly e s in cond (eqb (e .kind) 9) (holding (s .core .wire .ids) (t .core .wire .last) t) t
+idStays e s = let t = properly e s in cond (eqb (e .kind) 9) (holding (s .core .board .ids) (t .core .board .last) t) t
 
 -- ---- the steps, of two nodes
 
@@ -94,7 +94,7 @@ pub record Mistaken : Type 0 where
   pub forgotten-at-shutdown : historyBy forgotten afterRestart ≡ backwards
   pub id-stays : historyBy idStays afterBoth ≡ backwards
   -- That is no history as claimed.
-  pub not-rising : Rising backwards → ⊥
+  pub it-falls : NeverFalls backwards → ⊥
 
 -- By the rules, one of the two writes is denied.
 pub record Proper : Type 0 where
@@ -109,7 +109,7 @@ mistaken = record {
   not-raised = refl;
   forgotten-at-shutdown = refl;
   id-stays = refl;
-  not-rising = λ h. let u : 2 ≤ 1 = h .0 .0 in omega arith;
+  it-falls = λ h. let u : 2 ≤ 1 = h .0 .0 in omega arith;
 }
 
 pub proper : Proper

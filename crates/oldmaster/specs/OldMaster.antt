@@ -57,7 +57,7 @@ module _ (count : ℕ) where
     bound = λ x p. let z = nobody x p .1 in omega arith;
     events = λ i m k. absurd (List·Memᴰ·not-nil (rw (replicate-at {A = List Mastership} count [] i) at k));
     rows = λ i. rw (replicate-at count blank i, replicate-at {A = ℕ} count 0 i, replicate-at {A = List Request} count [] i) (record { learned = λ z. absurd (omega arith); climbs = omega arith; requests = tt; id = omega arith });
-    history = record { node = tt; named = tt; below = tt; rising = tt };
+    history = record { node = tt; named = tt; below = tt; never-falls = tt };
   }
     where
       nobody : (x : Write) → Named count [] x → (x .node ≡ 0) × (x .term ≡ 0)
@@ -128,7 +128,7 @@ module _ (count : ℕ) where
 
 pub kept-out : OldMastersKeptOut
 kept-out count es = record {
-  rising = law .history .rising;
+  never-falls = law .history .never-falls;
   one-node = λ x y p q e. law .once x y (named-in x p) (named-in y q) (some-node x p) (some-node y q) e;
   named = named-in;
   no-other = λ w p before behind q e z. law .once _ w (record { before = before; behind = behind; splits = q; master = refl; term = refl }) (named-in w p) z (some-node w p) e;

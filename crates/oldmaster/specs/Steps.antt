@@ -99,7 +99,7 @@ undesked d r h = record { service = rw d (stays refl (λ z. refl)); events = λ 
 
 -- The row at place i once node n's row is stored as y.
 abbrev stored : State → ℕ → Row → ℕ → Row
-stored s n y i = let w = s .core .wire in record {
+stored s n y i = let w = s .core .board in record {
   learned = getD (set (s .core .learned) (n - 1) (y .learned)) i blank;
   requests = getD (set (w .requests) (n - 1) (y .requests)) i [];
   id = getD (set (w .ids) (n - 1) (y .id)) i 0;
@@ -121,14 +121,14 @@ module _ {s : State} (r : InRange s) {n : ℕ} (node : Within 1 (s .count) n) wh
   anew y k i = go (ℕ-discrete i (n - 1))
     where
       go : Dec (i ≡ n - 1) → Becomes i (stored s n y i)
-      go (yes e) = let w = s .core .wire in let h = r .core .wire in rw (
+      go (yes e) = let w = s .core .board in let h = r .core .board in rw (
         e,
         getD-set-same (s .core .learned) (n - 1) (y .learned) blank (rw (r .core .learned-size) place),
         getD-set-same (w .requests) (n - 1) (y .requests) [] (rw (h .requests-size) place),
         getD-set-same (w .ids) (n - 1) (y .id) 0 (rw (h .ids-size) place),
         getD-set-same (w .terms) (n - 1) (y .term) 0 (rw (h .terms-size) place),
       ) k
-      go (no z) = let w = s .core .wire in rw (
+      go (no z) = let w = s .core .board in rw (
         getD-set-other (s .core .learned) (n - 1) i (y .learned) blank z,
         getD-set-other (w .requests) (n - 1) i (y .requests) [] z,
         getD-set-other (w .ids) (n - 1) i (y .id) 0 z,
@@ -227,7 +227,7 @@ handle-write-change {e} {s} r k node p =
 
 shutdown-change : {e : Event} {s : State} → Change e s (after shutdown (e .node) s)
 unfolding shutdownRule cleared
-shutdown-change {s = s} = let w = s .core .wire in
+shutdown-change {s = s} = let w = s .core .board in
     undesked refl (λ i. rw (none {A = List Request} [] (w .requests) i, none 0 (w .ids) i, none 0 (w .terms) i) Change.shut) (kept refl refl)
   where
     none : {A : Type 0} (x : A) (l : List A) (i : ℕ) → getD (map (λ y. x) l) i x ≡ x

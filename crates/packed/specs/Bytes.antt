@@ -32,8 +32,8 @@ fieldBytes r = numberBytes r ++ flagBytes r
 abbrev pub fieldLength : ℕ
 fieldLength = 40
 
-abbrev pub bufferShort : ℕ
-bufferShort = 12
+abbrev pub outTooShort : ℕ
+outTooShort = 12
 
 pub record Reported : Type 0 where
   pub returned : ℕ
@@ -45,7 +45,7 @@ reportedAs (broken why) fields = record { returned = codeOf why; fields = fields
 reportedAs (whole u) fields =
     cond (leb fieldLength (length fields))
     (record { returned = 0; fields = fieldBytes (seen u) ++ drop fieldLength fields })
-    (record { returned = bufferShort; fields = fields })
+    (record { returned = outTooShort; fields = fields })
 
 unfoldable pub reported : List ℕ → List ℕ → Reported
 reported message fields = reportedAs (reading message) fields

@@ -31,31 +31,31 @@ little-more (suc n) v = ap (λ (l : List ℕ). v % 256 ∷ l) (little-more n (v 
 
 -- ---- the loop that puts them
 
-pub record Putting (before : List ℕ) (at count v : ℕ) (buf : List ℕ) (next left i : ℕ) : Type 0 where
-  pub few : i ≤ count
+pub record Putting (before : List ℕ) (at size v : ℕ) (buf : List ℕ) (next left i : ℕ) : Type 0 where
+  pub few : i ≤ size
   pub rest : left ≡ above i v
   pub put : Put before at (little i v) buf next
 
-pub putting-starts : (buf : List ℕ) (at count v : ℕ) → Putting buf at count v buf at v 0
+pub putting-starts : (buf : List ℕ) (at size v : ℕ) → Putting buf at size v buf at v 0
 unfolding little above
-putting-starts buf at count v = record { few = omega arith; rest = refl; put = put-none buf at }
+putting-starts buf at size v = record { few = omega arith; rest = refl; put = put-none buf at }
 
-module _ {before : List ℕ} {at count v : ℕ} {buf : List ℕ} {next left i : ℕ} (p : Putting before at count v buf next left i) where
-  pub putting-inside : Room before at (little count v) → i < count → next < length buf
+module _ {before : List ℕ} {at size v : ℕ} {buf : List ℕ} {next left i : ℕ} (p : Putting before at size v buf next left i) where
+  pub putting-inside : Room before at (little size v) → i < size → next < length buf
   putting-inside room more =
       let n = p .put .place in
       let k = little-length i v in
-      let m = little-length count v in
+      let m = little-length size v in
       let l = put-length (p .put) in
       let r = room .enough in
       omega arith
 
-  pub putting-more : i < count → Putting before at count v (set buf next (left % 256)) (next + 1) (left / 256) (i + 1)
+  pub putting-more : i < size → Putting before at size v (set buf next (left % 256)) (next + 1) (left / 256) (i + 1)
   putting-more more = record {
     few = omega arith;
     rest = rw (add-one i, above-more i v) (ap (λ (x : ℕ). x / 256) (p .rest));
     put = rw (add-one i, little-more i v, ← p .rest) (put-then (p .put) (record { content = refl; place = refl }));
   }
 
-  pub putting-ends : count ≤ i → Put before at (little count v) buf next
-  putting-ends all = let few = p .few in let same : i ≡ count = omega arith in rw (← same) (p .put)
+  pub putting-ends : size ≤ i → Put before at (little size v) buf next
+  putting-ends all = let few = p .few in let same : i ≡ size = omega arith in rw (← same) (p .put)

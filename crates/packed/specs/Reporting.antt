@@ -13,7 +13,7 @@ use Rattle.text.specs.Put.{Put}
 use Rattle.update.specs.Update.{Update, reading}
 use Rattle.update.specs.Seen.{rawOf}
 use Rattle.update.specs.declared.Raw.{Raw}
-use Rattle.packed.specs.Bytes.{fieldBytes, fieldLength, bufferShort, Reported, reportedAs, reported}
+use Rattle.packed.specs.Bytes.{fieldBytes, fieldLength, outTooShort, Reported, reportedAs, reported}
 use Rattle.packed.specs.Little.{little-length}
 
 pub field-bytes-length : (r : Raw) → length (fieldBytes r) ≡ fieldLength
@@ -37,11 +37,11 @@ module _ (message fields : List ℕ) (r : Raw) (is : r ≡ rawOf (reading messag
       go (whole u) e = simp (le-leb fieldLength (length fields) room) (ap (λ (x : Raw). record { returned = 0; fields = fieldBytes x ++ drop fieldLength fields }) (sym (found (whole u) e)))
       go (broken why) e = absurd (some-code why (sym (ap (λ (x : Raw). x .code) (found (broken why) e)) ∙ good))
 
-  pub reports-short : r .code ≡ 0 → length fields < fieldLength → reported message fields ≡ record { returned = bufferShort; fields = fields }
+  pub reports-short : r .code ≡ 0 → length fields < fieldLength → reported message fields ≡ record { returned = outTooShort; fields = fields }
   unfolding reported
   reports-short good short = go (reading message) refl
     where
-      go : (s : Reading Update) → reading message ≡ s → reportedAs s fields ≡ record { returned = bufferShort; fields = fields }
+      go : (s : Reading Update) → reading message ≡ s → reportedAs s fields ≡ record { returned = outTooShort; fields = fields }
       go (whole u) e = simp (lt-leb fieldLength (length fields) short)
       go (broken why) e = absurd (some-code why (sym (ap (λ (x : Raw). x .code) (found (broken why) e)) ∙ good))
 

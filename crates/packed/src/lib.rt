@@ -6,14 +6,14 @@ ghost use Rattle.packed.specs.Bytes.{little, flag, numberBytes, flagByte
 use update::Raw;
 
 // The low bytes of a number, the least first.
-fn put_little(buf: &mut [u8], at: usize, count: usize, v: u64) -> usize
-    requires { ⌜ Room (now buf) at (little count v) ⌝ }
-    ensures { λ r. ⌜ Put (now (buf .entry)) at (little count v) (now (buf .exit)) r ⌝ }
+fn put_little(buf: &mut [u8], at: usize, size: usize, v: u64) -> usize
+    requires { ⌜ Room (now buf) at (little size v) ⌝ }
+    ensures { λ r. ⌜ Put (now (buf .entry)) at (little size v) (now (buf .exit)) r ⌝ }
 {
     let mut next = at;
     let mut left = v;
     let mut i: usize = 0;
-    while i < count {
+    while i < size {
         buf[next] = (left % 256) as u8;
         left = left / 256;
         next += 1;
@@ -66,7 +66,7 @@ fn put_fields(buf: &mut [u8], read: Raw) -> usize
 // The most that is put.
 pub const FIELD_BYTES: usize = 40;
 
-const BUFFER_SHORT: u32 = 12;
+const OUT_TOO_SHORT: u32 = 12;
 
 // Reads a message and puts its fields at the front of the buffer; bytes after them stay. Returns 0, or why not: then the buffer stays as it was.
 pub fn read_into(message: &[u8], fields: &mut [u8]) -> u32
@@ -79,7 +79,7 @@ pub fn read_into(message: &[u8], fields: &mut [u8]) -> u32
             put_fields(fields, read);
             return wire::READ as u32;
         }
-        return BUFFER_SHORT;
+        return OUT_TOO_SHORT;
     }
     read.code as u32
 }

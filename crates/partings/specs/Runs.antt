@@ -15,12 +15,12 @@ use Rattle.runner.specs.Whole.{all-answered, few-writes}
 use Rattle.partings.specs.Difference.{history, entries}
 use Rattle.partings.specs.Entries.{written}
 
--- A run of the list accepted n writes, and left this buffer, whose first `count` bytes are the answers.
-pub record Written (list : List ℕ) (count : ℕ) (after : List ℕ) (n : ℕ) : Type 0 where
+-- A run of the list accepted n writes, and left this buffer, whose first `total` bytes are the answers.
+pub record Written (list : List ℕ) (total : ℕ) (after : List ℕ) (n : ℕ) : Type 0 where
   pub few : n ≤ historyLength
   pub writes : n ≡ length (history list)
-  pub size : count + 4 * n ≤ length after
-  pub says : entries (drop count after) n ≡ history list
+  pub size : total + 4 * n ≤ length after
+  pub says : entries (drop total after) n ≡ history list
 
 pub written-run : (list before after : List ℕ) (returned : ℕ) → refusal list ≡ 0 → recordCount list + historyRoom ≤ length before
     → returned ≡ ran list before .returned → after ≡ ran list before .out → (noWrites ≤ returned) × Written list (recordCount list) after (returned - noWrites)
@@ -29,9 +29,9 @@ written-run list before after returned none room r o =
     let answers = wholeRun list .answer in
     let ws = history list in
     let rest = drop (length (answers ++ historyBytes ws)) before in
-    let count = all-answered list (good list none) in
+    let answered = all-answered list (good list none) in
     let whole : after ≡ answers ++ (historyBytes ws ++ rest) = o ∙ ap (λ (x : Ran). x .out) run ∙ append-assoc answers (historyBytes ws) rest in
-    let part : drop (recordCount list) after ≡ historyBytes ws ++ rest = ap (drop (recordCount list)) whole ∙ drop-at answers (historyBytes ws ++ rest) (recordCount list) count in
+    let part : drop (recordCount list) after ≡ historyBytes ws ++ rest = ap (drop (recordCount list)) whole ∙ drop-at answers (historyBytes ws ++ rest) (recordCount list) answered in
     let few = few-writes list (good list none) in
     let given : returned ≡ noWrites + length ws = r ∙ ap (λ (x : Ran). x .returned) run in
     let writes : returned - noWrites ≡ length ws = omega arith in

@@ -2,6 +2,7 @@
 use mathlib.Core.List.{List, []}
 use Prim.Native.Nat.{ℕ}
 use lib.ListN.{length, take}
+use Rattle.rules.specs.Limits.{mostBackups}
 use Rattle.rules.specs.State as S
 use Rattle.seqs.specs.Arrays.{padded, Queue, packed, held}
 use Rattle.parts.specs.declared.Mastership.{Mastership}
@@ -18,13 +19,13 @@ use Rattle.parts.specs.declared.ResponseQueue.{ResponseQueue}
 -- ---- masterships
 
 abbrev pub holdMastership : Mastership → S.Mastership
-holdMastership m = record { term = m .term .0; master = m .master; backups = take (m .count) (m .backups) }
+holdMastership m = record { term = m .term .0; master = m .master; backups = take (m .len) (m .backups) }
 
 abbrev pub asIs : ℕ → ℕ
 asIs x = x
 
 abbrev pub packMastership : S.Mastership → Mastership
-packMastership m = record { term = record { 0 = m .term }; master = m .master; backups = padded 0 asIs 7 (m .backups); count = length (m .backups) }
+packMastership m = record { term = record { 0 = m .term }; master = m .master; backups = padded 0 asIs mostBackups (m .backups); len = length (m .backups) }
 
 -- at an unused place
 abbrev pub noMastership : Mastership
@@ -32,7 +33,7 @@ noMastership = packMastership S.blank
 
 -- what the logic has for a read past the end of an array of masterships
 abbrev pub pastMastership : Mastership
-pastMastership = record { term = record { 0 = 0 }; master = 0; backups = []; count = 0 }
+pastMastership = record { term = record { 0 = 0 }; master = 0; backups = []; len = 0 }
 
 -- ---- messages
 

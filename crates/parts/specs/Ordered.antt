@@ -6,7 +6,7 @@ use mathlib.Core.List.{List, [], _∷_}
 use Prim.Native.Nat.{ℕ, zero, suc, _≤_}
 use lib.Dec.{leb}
 use lib.ListN.{length, take}
-use Rattle.rules.specs.Limits.{queueLength}
+use Rattle.rules.specs.Limits.{mostBackups, queueLength}
 use Rattle.rules.specs.Queues.{push, rest}
 use Rattle.rules.specs.State as S
 use Rattle.seqs.specs.Arrays.{padded}
@@ -26,7 +26,7 @@ taken zero (x ∷ l) = ap (λ (t : List ℕ). x ∷ t) (taken zero l)
 taken (suc size) (x ∷ l) = ap (λ (t : List ℕ). x ∷ t) (taken size l)
 
 pub mastership-back : (m : S.Mastership) → holdMastership (packMastership m) ≡ m
-mastership-back m = λ i. record { term = m .term; master = m .master; backups = taken 7 (m .backups) i }
+mastership-back m = λ i. record { term = m .term; master = m .master; backups = taken mostBackups (m .backups) i }
 
 message-back : (m : S.Message) → holdMessage (packMessage m) ≡ m
 message-back S.update = refl
@@ -47,7 +47,7 @@ response-back r = λ i. record { message = message-back (r .message) i; status =
 
 pub record OrderedMastership (m : Mastership) : Type 0 where
   pub same : packMastership (holdMastership m) ≡ m
-  pub short : length (holdMastership m .backups) ≤ 7
+  pub short : length (holdMastership m .backups) ≤ mostBackups
 
 abbrev pub OrderedEvents : EventQueue → Type 0
 OrderedEvents q = Ordered noMastership packMastership holdMastership (eventsQueue q)
@@ -58,8 +58,8 @@ OrderedRequests q = Ordered noRequest packRequest holdRequest (requestsQueue q)
 abbrev pub OrderedResponses : ResponseQueue → Type 0
 OrderedResponses q = Ordered noResponse packResponse holdResponse (responsesQueue q)
 
-pub ordered-mastership : (m : S.Mastership) → length (m .backups) ≤ 7 → OrderedMastership (packMastership m)
-ordered-mastership m h = record { same = ap packMastership (mastership-back m); short = rw (taken 7 (m .backups)) h }
+pub ordered-mastership : (m : S.Mastership) → length (m .backups) ≤ mostBackups → OrderedMastership (packMastership m)
+ordered-mastership m h = record { same = ap packMastership (mastership-back m); short = rw (taken mostBackups (m .backups)) h }
 
 pub ordered-events : (l : List S.Mastership) → length l ≤ queueLength → OrderedEvents (packEvents l)
 ordered-events l h = ordered-packed noMastership packMastership holdMastership mastership-back l h

@@ -4,6 +4,7 @@ ghost use Prim.Native.Nat.{_≤_};
 ghost use lib.Dec.{leb};
 ghost use mathlib.Core.List.{[]};
 ghost use Rattle.rules.specs.Limits.{topId, queueLength};
+ghost use Rattle.rules.specs.Range.{within};
 ghost use Rattle.rules.specs.Ids.{electionId, termOf, named, placeOf};
 ghost use Rattle.parts.specs.Hold.{holdMastership, noMastership, noRequest, noResponse, packEvents, packRequests, packResponses};
 ghost use Rattle.parts.specs.Queues.{pushEvent, popEvent, pushRequest, popRequest, pushResponse, popResponse};
@@ -11,11 +12,40 @@ ghost use Rattle.parts.specs.Queues.{pushEvent, popEvent, pushRequest, p
 // The limits of a state.
 pub const MOST_NODES: u8 = 8;
 
+pub const MOST_BACKUPS: u8 = 7;
+
 pub const TOP_TERM: u16 = 10000;
 
 pub const TOP_ID: u32 = 10008;
 
 pub const HISTORY_LENGTH: u16 = 1024;
+
+// The kinds of steps.
+pub const JOIN: u8 = 1;
+
+pub const LEAVE: u8 = 2;
+
+pub const LEARN: u8 = 3;
+
+pub const SEND_UPDATE: u8 = 4;
+
+pub const RECEIVE_UPDATE: u8 = 5;
+
+pub const SEND_WRITE: u8 = 6;
+
+pub const RECEIVE_WRITE: u8 = 7;
+
+pub const CONNECT: u8 = 8;
+
+pub const CLOSE: u8 = 9;
+
+pub const HANDLE_UPDATE: u8 = 10;
+
+pub const HANDLE_WRITE: u8 = 11;
+
+pub const SHUTDOWN: u8 = 12;
+
+pub const STARTUP: u8 = 13;
 
 // The answer codes: of a step, and of an event list.
 pub const DONE: u8 = 0;
@@ -24,11 +54,11 @@ pub const OUT_OF_RANGE: u8 = 1;
 
 pub const UNKNOWN_KIND: u8 = 2;
 
-pub const UNKNOWN_NODE: u8 = 3;
+pub const WRONG_NODE: u8 = 3;
 
 pub const NOT_ALLOWED: u8 = 4;
 
-pub const TERMS_SPENT: u8 = 5;
+pub const TERM_LIMIT: u8 = 5;
 
 pub const HISTORY_FULL: u8 = 6;
 
@@ -36,13 +66,23 @@ pub const QUEUE_FULL: u8 = 7;
 
 pub const BAD_LENGTH: u8 = 8;
 
-pub const BAD_TRAILER: u8 = 9;
+pub const BAD_MARK: u8 = 9;
 
 pub const BAD_NODE_COUNT: u8 = 10;
 
-pub const BAD_SUM: u8 = 11;
+pub const BAD_EXTENT: u8 = 11;
 
-pub const BUFFER_SHORT: u8 = 12;
+pub const OUT_TOO_SHORT: u8 = 12;
+
+// Whether there is such a node, among `count` of them.
+pub fn is_node(count: u8, node: u8) -> bool
+    ensures { λ r. ⌜ r ≡ within 1 count node ⌝ }
+{
+    if node < 1 {
+        return false;
+    }
+    node <= count
+}
 
 // A term of the election service.
 pub struct Term(pub u16);
@@ -78,8 +118,8 @@ pub fn term_of(count: u8, id: ElectionId) -> Term
 pub struct Mastership {
     pub term: Term,
     pub master: u8,
-    pub backups: [u8; 7],
-    pub count: u8,
+    pub backups: [u8; MOST_BACKUPS as usize],
+    pub len: u8,
 }
 
 impl Mastership {
@@ -89,8 +129,8 @@ impl Mastership {
         Mastership {
             term: Term(0),
             master: 0,
-            backups: [0u8; 7],
-            count: 0,
+            backups: [0u8; MOST_BACKUPS as usize],
+            len: 0,
         }
     }
 
@@ -102,9 +142,9 @@ impl Mastership {
             return 0;
         }
         let mut i: u8 = 0;
-        while i < 7 {
+        while i < MOST_BACKUPS {
             let at = i as usize;
-            if self.count <= i {
+            if self.len <= i {
                 return i + 1;
             }
             if self.backups[at] == node {
@@ -112,7 +152,7 @@ impl Mastership {
             }
             i += 1;
         }
-        8
+        MOST_NODES
     }
 
     // Whether the node is the master or a backup.
@@ -120,10 +160,10 @@ impl Mastership {
         ensures { λ r. ⌜ r ≡ named node (holdMastership self) ⌝ }
     {
         let place = self.place_of(node);
-        if 7 < place {
+        if MOST_BACKUPS < place {
             return false;
         }
-        place <= self.count
+        place <= self.len
     }
 }
 

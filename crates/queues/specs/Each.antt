@@ -8,8 +8,8 @@ use native.Mathlib.Numerals.{add-one}
 use Rattle.rules.specs.Range.{each}
 
 -- What a call gives, and the test of what it gave.
-pub told : {result given b : Bool} → result ≡ given → result ≡ b → given ≡ b
-told e h = sym e ∙ h
+pub from-result : {result given b : Bool} → result ≡ given → result ≡ b → given ≡ b
+from-result e h = sym e ∙ h
 
 module _ (p : ℕ → Bool) where
   -- One place more passes.

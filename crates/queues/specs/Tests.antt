@@ -4,7 +4,7 @@ use mathlib.Core.List.{List}
 use Prim.Native.Nat.{ℕ, _+_}
 use lib.Dec.{leb, ltb, eqb}
 use lib.ListN.{getD}
-use Rattle.rules.specs.Limits.{topTerm, queueLength}
+use Rattle.rules.specs.Limits.{mostBackups, topTerm, queueLength}
 use Rattle.rules.specs.State as S
 use Rattle.rules.specs.Ids.{placeOf}
 use Rattle.rules.specs.Range.{each, within, requestFits, answerFits}
@@ -31,14 +31,14 @@ placesTest size used behind d l len = leb len size && each size (place used behi
 
 -- The number b at place i of the backups: one in use is a node whose first place in the mastership this is.
 unfoldable pub backupAt : ℕ → Mastership → ℕ → ℕ → Bool
-backupAt count m i b = cond (ltb i (m .count)) (within 1 count b && eqb (placeOf b (holdMastership m)) (i + 1)) (isZero b)
+backupAt count m i b = cond (ltb i (m .len)) (within 1 count b && eqb (placeOf b (holdMastership m)) (i + 1)) (isZero b)
 
 abbrev pub backupPlace : ℕ → Mastership → ℕ → Bool
 backupPlace count m i = backupAt count m i (getD (m .backups) i 0)
 
 -- Among no nodes: there are no backups.
 unfoldable pub backupsTest : ℕ → Mastership → Bool
-backupsTest count m = leb (m .count) 7 && each 7 (backupPlace count m)
+backupsTest count m = leb (m .len) mostBackups && each mostBackups (backupPlace count m)
 
 unfoldable pub blankTest : Mastership → Bool
 blankTest m = isZero (m .term .0) && isZero (m .master) && backupsTest 0 m

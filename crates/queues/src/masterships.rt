@@ -2,22 +2,12 @@
 ghost use mathlib.Core.Path.{_≡_};
 ghost use mathlib.Core.Bool.{cond};
 ghost use Prim.Native.Nat.{_<_};
-ghost use Rattle.rules.specs.Limits.{topTerm};
+ghost use Rattle.rules.specs.Limits.{mostBackups, topTerm};
 ghost use Rattle.rules.specs.Range.{within};
 ghost use Rattle.queues.specs.Tests.{backupAt, backupsTest, blankTest, eventTest, serviceTest, learnedTest, eventsTest};
 use parts::EventQueue;
 use parts::Mastership;
 use parts::Term;
-
-// Whether n is one of the nodes.
-pub fn is_node(count: u8, n: u8) -> bool
-    ensures { λ r. ⌜ r ≡ within 1 count n ⌝ }
-{
-    if n < 1 {
-        return false;
-    }
-    n <= count
-}
 
 // Whether t is a term that the service can have given.
 pub fn is_term(t: Term) -> bool
@@ -32,13 +22,13 @@ pub fn is_term(t: Term) -> bool
 // The number b at place i of the backups: behind those in use it is 0.
 // Else it is a node whose first place in the mastership this is: not the master, and no backup before it.
 fn backup_fits(count: u8, m: Mastership, i: u8, b: u8) -> bool
-    requires { ⌜ i < 7 ⌝ }
+    requires { ⌜ i < mostBackups ⌝ }
     ensures { λ r. ⌜ r ≡ backupAt count m i b ⌝ }
 {
-    if m.count <= i {
+    if m.len <= i {
         return b == 0;
     }
-    if is_node(count, b) {
+    if parts::is_node(count, b) {
         return m.place_of(b) == i + 1;
     }
     false
@@ -47,11 +37,11 @@ fn backup_fits(count: u8, m: Mastership, i: u8, b: u8) -> bool
 fn backups_fit(count: u8, m: Mastership) -> bool
     ensures { λ r. ⌜ r ≡ backupsTest count m ⌝ }
 {
-    if 7 < m.count {
+    if parts::MOST_BACKUPS < m.len {
         return false;
     }
     let mut i: u8 = 0;
-    while i < 7 {
+    while i < parts::MOST_BACKUPS {
         let at = i as usize;
         let b = m.backups[at];
         if backup_fits(count, m, i, b) {
@@ -81,7 +71,7 @@ fn event_fits(count: u8, m: Mastership) -> bool
 {
     let term = m.term;
     if is_term(term) {
-        if is_node(count, m.master) {
+        if parts::is_node(count, m.master) {
             return backups_fit(count, m);
         }
     }

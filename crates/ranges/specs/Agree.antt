@@ -11,7 +11,7 @@ use borrow.Author.Tests.{lt-ltb, le-ltb}
 use Rattle.rules.specs.Limits.{mostNodes, topTerm, historyLength}
 use Rattle.rules.specs.State as S
 use Rattle.rules.specs.Queues.{before}
-use Rattle.rules.specs.Range.{all, distinctIds, queueFits, mastershipFits, serviceFits, learnedFits, deskFits, streamFits, wireFits, writeFits, coreFits, inRange}
+use Rattle.rules.specs.Range.{all, distinctIds, queueFits, mastershipFits, serviceFits, learnedFits, deskFits, streamFits, boardFits, writeFits, coreFits, inRange}
 use Rattle.laws.specs.All.{All}
 use Rattle.laws.specs.InRange.{Within}
 use Rattle.laws.specs.Tests.{Is, is-map, _&_, as-is, is-unless, is-le, is-eq, is-ne, is-within, is-all, is-each, is-distinct-ids}
@@ -19,27 +19,27 @@ use Rattle.laws.specs.Lists.{all-with}
 use Rattle.seqs.specs.Arrays.{column}
 use Rattle.seqs.specs.Columns.{column-at, length-column}
 use Rattle.parts.specs.Hold.{holdMastership}
-use Rattle.state.specs.Hold.{eventsAt, learnedAt, saysAt, openAt, sentAt, requestsAt, responsesAt, idAt, termAt, noWrite, holdWire, holdDesk, holdCore, holdHistory, hold}
-use Rattle.state.specs.Order.{pastNode, pastStream}
-use Rattle.state.specs.Tidy.{isZero, tidyMastership, tidyNode, blankNode, tidyStream, blankStream, blankId, blankTerm, tidyCore, tidyHistory, stateFits}
-use Rattle.state.specs.declared.Node.{Node}
+use Rattle.state.specs.Hold.{eventsAt, learnedAt, saysAt, openAt, sentAt, requestsAt, responsesAt, idAt, termAt, noWrite, holdBoard, holdDesk, holdCore, holdHistory, hold}
+use Rattle.state.specs.Order.{pastController, pastStream}
+use Rattle.state.specs.Tidy.{isZero, tidyMastership, tidyController, blankController, tidyStream, blankStream, blankId, blankTerm, tidyCore, tidyHistory, stateFits}
+use Rattle.state.specs.declared.Controller.{Controller}
 use Rattle.state.specs.declared.Stream.{Stream}
 use Rattle.state.specs.declared.Claims.{Claims}
 use Rattle.state.specs.declared.State.{State}
-use Rattle.bridge.specs.Sized.{SizedNode, SizedStream, Sized}
+use Rattle.bridge.specs.Sized.{SizedController, SizedStream, Sized}
 use Rattle.bridge.specs.Rows.{all-any, all-take, taken-at, dropped-at}
-use Rattle.ranges.specs.Tests.{nodeTest, blankNodeTest, nodesTest, streamPlace, streamsTest, idTest, idsTest, historyTest, coreTest, stateTest}
+use Rattle.ranges.specs.Tests.{controllerTest, blankControllerTest, controllersTest, streamPlace, streamsTest, idTest, idsTest, historyTest, coreTest, stateTest}
 use Rattle.ranges.specs.Places.{agree, is-then, all-taken, all-dropped, all-each, all-mapped, all-unmapped, is-places}
 use Rattle.ranges.specs.First.{ids-first, first-ids}
 use Rattle.ranges.specs.Masterships.{is-service}
 use Rattle.ranges.specs.Queues.{listFits, accepted, is-queue}
-use Rattle.ranges.specs.Rows.{is-node, is-no-node, is-stream, is-no-stream}
+use Rattle.ranges.specs.Rows.{is-controller, is-no-controller, is-stream, is-no-stream}
 
 -- ---- the columns of the nodes
 
-module _ (n : ℕ) (l : List Node) (sized : length l ≡ mostNodes) (known : All SizedNode l) where
-  abbrev NodeFits : Node → Type 0
-  NodeFits r = T (tidyNode r) × (T (queueFits (mastershipFits n) (eventsAt r)) × T (learnedFits n (learnedAt r)))
+module _ (n : ℕ) (l : List Controller) (sized : length l ≡ mostNodes) (known : All SizedController l) where
+  abbrev ControllerFits : Controller → Type 0
+  ControllerFits r = T (tidyController r) × (T (queueFits (mastershipFits n) (eventsAt r)) × T (learnedFits n (learnedAt r)))
 
   abbrev queuesFit : Bool
   queuesFit = all (queueFits (mastershipFits n)) (column eventsAt n l)
@@ -48,9 +48,9 @@ module _ (n : ℕ) (l : List Node) (sized : length l ≡ mostNodes) (known : All
   allLearned = all (learnedFits n) (column learnedAt n l)
 
   -- By columns.
-  is-nodes-columns : Is (all tidyNode (take n l) && queuesFit && allLearned && all blankNode (drop n l))
-      (All NodeFits (take n l) × All (λ r. T (blankNode r)) (drop n l))
-  is-nodes-columns =
+  is-controllers-columns : Is (all tidyController (take n l) && queuesFit && allLearned && all blankController (drop n l))
+      (All ControllerFits (take n l) × All (λ r. T (blankController r)) (drop n l))
+  is-controllers-columns =
       is-map
       (λ t. let c = t .0 in (
         all-with (λ r a b. (a, b)) (take n l) (c .0 .0)
@@ -66,13 +66,13 @@ module _ (n : ℕ) (l : List Node) (sized : length l ≡ mostNodes) (known : All
         ),
         h .1,
       ))
-      (is-all (λ r. as-is (tidyNode r)) (take n l) & is-all (λ q. as-is (queueFits (mastershipFits n) q)) (column eventsAt n l)
-      & is-all (λ m. as-is (learnedFits n m)) (column learnedAt n l) & is-all (λ r. as-is (blankNode r)) (drop n l))
+      (is-all (λ r. as-is (tidyController r)) (take n l) & is-all (λ q. as-is (queueFits (mastershipFits n) q)) (column eventsAt n l)
+      & is-all (λ m. as-is (learnedFits n m)) (column learnedAt n l) & is-all (λ r. as-is (blankController r)) (drop n l))
 
   -- By rows.
-  is-nodes : Is (nodesTest n l) (All NodeFits (take n l) × All (λ r. T (blankNode r)) (drop n l))
-  unfolding nodesTest
-  is-nodes = is-places (nodeTest n) blankNodeTest pastNode l n mostNodes sized SizedNode NodeFits (λ r. T (blankNode r)) (λ r k. is-node r k n) is-no-node known
+  is-controllers : Is (controllersTest n l) (All ControllerFits (take n l) × All (λ r. T (blankController r)) (drop n l))
+  unfolding controllersTest
+  is-controllers = is-places (controllerTest n) blankControllerTest pastController l n mostNodes sized SizedController ControllerFits (λ r. T (blankController r)) (λ r k. is-controller r k n) is-no-controller known
 
 -- ---- the columns of the streams
 
@@ -95,15 +95,15 @@ module _ (n : ℕ) (running : Bool) (l : List Stream) (claims : Claims) (sized :
   abbrev termOf : ℕ → ℕ
   termOf i = getD (claims .terms) i (record { 0 = 0 }) .0
 
-  abbrev wire : S.Wire
-  wire = holdWire n l claims
+  abbrev board : S.Board
+  board = holdBoard n l claims
 
   -- One stream, of the columns.
   abbrev streamAt : ℕ → Bool
-  streamAt i = streamFits (getD (wire .opens) i false) (getD (wire .sent) i 0) (getD (wire .requests) i []) (getD (wire .responses) i []) (getD (wire .ids) i 0) (getD (wire .terms) i 0)
+  streamAt i = streamFits (getD (board .opens) i false) (getD (board .sent) i 0) (getD (board .requests) i []) (getD (board .responses) i []) (getD (board .ids) i 0) (getD (board .terms) i 0)
 
   stream-at : (i : ℕ) → i < n → streamAt i ≡ streamFits (at i .opened) (at i .sent .0) (requestsAt (at i)) (responsesAt (at i)) (idOf i) (termOf i)
-  unfolding holdWire
+  unfolding holdBoard
   stream-at i h = λ z. streamFits
       (column-at openAt n i l pastStream h z)
       (column-at sentAt n i l pastStream h z)
@@ -116,7 +116,7 @@ module _ (n : ℕ) (running : Bool) (l : List Stream) (claims : Claims) (sized :
   record Streams : Type 0 where
     tidy : All (λ r. T (tidyStream r)) (take n l)
     fit : (i : ℕ) → i < n → T (streamAt i)
-    stopped : All (λ o. T (running || not o)) (wire .opens)
+    stopped : All (λ o. T (running || not o)) (board .opens)
     blank : All (λ r. T (blankStream r)) (drop n l)
     no-ids : All (λ x. T (blankId x)) (drop n (claims .ids))
     no-terms : All (λ x. T (blankTerm x)) (drop n (claims .terms))
@@ -134,7 +134,7 @@ module _ (n : ℕ) (running : Bool) (l : List Stream) (claims : Claims) (sized :
   is-behind i h j = rw (le-ltb i n j) (is-no-stream (at i) (sized-at i h) (idOf i) (termOf i))
 
   streams-there : n ≤ mostNodes → ((i : ℕ) → i < mostNodes → T (streamPlace n running l claims i)) → Streams
-  unfolding holdWire
+  unfolding holdBoard
   streams-there few f =
       let used : (i : ℕ) → i < n → StreamUsed i = λ i j. is-used i (omega arith) j .to (f i (omega arith)) in
       record {
@@ -147,7 +147,7 @@ module _ (n : ℕ) (running : Bool) (l : List Stream) (claims : Claims) (sized :
       }
 
   streams-back : Streams → (i : ℕ) → i < mostNodes → T (streamPlace n running l claims i)
-  unfolding holdWire
+  unfolding holdBoard
   streams-back s i h = go (decLt i n)
     where
       go : Dec (i < n) → T (streamPlace n running l claims i)
@@ -170,8 +170,8 @@ module _ (n : ℕ) (running : Bool) (l : List Stream) (claims : Claims) (sized :
 
   -- ---- the ids
 
-  is-ids : n ≤ mostNodes → Is (idsTest n claims) (T (distinctIds (wire .ids)))
-  unfolding idsTest idTest holdWire
+  is-ids : n ≤ mostNodes → Is (idsTest n claims) (T (distinctIds (board .ids)))
+  unfolding idsTest idTest holdBoard
   is-ids few =
       let held = column idAt n (claims .ids) in
       let count = length-column idAt n (claims .ids) (omega arith) in
@@ -191,8 +191,8 @@ module _ (s : State) (k : Sized s) where
   abbrev n : ℕ
   n = s .count
 
-  abbrev nodes : List Node
-  nodes = s .core .nodes
+  abbrev controllers : List Controller
+  controllers = s .core .controllers
 
   abbrev streams : List Stream
   streams = s .core .streams
@@ -207,9 +207,9 @@ module _ (s : State) (k : Sized s) where
     count : Within 1 mostNodes n
     tidy-service : T (tidyMastership (s .core .service))
     service : T (serviceFits n (holdMastership (s .core .service)))
-    rows : All (NodeFits n nodes (k .nodes) (k .node-rows)) (take n nodes)
-    blank-rows : All (λ r. T (blankNode r)) (drop n nodes)
-    wire : Streams n (s .running) streams claims (k .streams) (k .stream-rows) (k .ids) (k .terms)
+    rows : All (ControllerFits n controllers (k .controllers) (k .controller-rows)) (take n controllers)
+    blank-rows : All (λ r. T (blankController r)) (drop n controllers)
+    board : Streams n (s .running) streams claims (k .streams) (k .stream-rows) (k .ids) (k .terms)
     ids : T (distinctIds (column idAt n (claims .ids)))
     last : claims .last .0 ≤ topTerm
     tidy-history : T (tidyHistory (s .history))
@@ -220,7 +220,7 @@ module _ (s : State) (k : Sized s) where
   is-history = is-queue (accepted n) historyLength (s .history .items) (k .history) (all-any (s .history .items)) noWrite (s .history .len)
 
   is-test : Is (stateTest s) Facts
-  unfolding stateTest coreTest holdWire
+  unfolding stateTest coreTest holdBoard
   is-test =
       is-map
       (λ t. let c = t .0 .1 in let a = c .0 .0 in record {
@@ -229,15 +229,15 @@ module _ (s : State) (k : Sized s) where
         service = a .0 .1 .1;
         rows = a .1 .0;
         blank-rows = a .1 .1;
-        wire = c .0 .1;
+        board = c .0 .1;
         ids = c .1;
         last = a .0 .0;
         tidy-history = t .1 .0;
         history = t .1 .1;
       })
-      (λ f. ((f .count, ((((f .last, (f .tidy-service, f .service)), (f .rows, f .blank-rows)), f .wire), f .ids)), (f .tidy-history, f .history)))
+      (λ f. ((f .count, ((((f .last, (f .tidy-service, f .service)), (f .rows, f .blank-rows)), f .board), f .ids)), (f .tidy-history, f .history)))
       (is-then (is-within 1 mostNodes n) (λ w. let few : n ≤ mostNodes = w .upper in
-      is-le (claims .last .0) topTerm & is-service (s .core .service) (k .service) n & is-nodes n nodes (k .nodes) (k .node-rows)
+      is-le (claims .last .0) topTerm & is-service (s .core .service) (k .service) n & is-controllers n controllers (k .controllers) (k .controller-rows)
       & is-streams n (s .running) streams claims (k .streams) (k .stream-rows) (k .ids) (k .terms) few
       & is-ids n (s .running) streams claims (k .streams) (k .stream-rows) (k .ids) (k .terms) few)
       & is-history)
@@ -245,10 +245,10 @@ module _ (s : State) (k : Sized s) where
   abbrev At : ℕ → Type 0
   At i = T (streamAt n (s .running) streams claims (k .streams) (k .stream-rows) (k .ids) (k .terms) i)
 
-  is-wire : n ≤ mostNodes → Is (wireFits n (s .running) (holdWire n streams claims))
+  is-board : n ≤ mostNodes → Is (boardFits n (s .running) (holdBoard n streams claims))
       (((((i : ℕ) → i < n → At i) × T (distinctIds (column idAt n (claims .ids)))) × All (λ o. T (s .running || not o)) opens) × (claims .last .0 ≤ topTerm))
-  unfolding wireFits holdWire
-  is-wire few =
+  unfolding boardFits holdBoard
+  is-board few =
       let a = k .streams in
       let b = k .ids in
       let c = k .terms in
@@ -265,37 +265,37 @@ module _ (s : State) (k : Sized s) where
       & is-le (claims .last .0) topTerm)
 
   is-core : n ≤ mostNodes → Is (coreFits n (s .running) (holdCore n (s .core)))
-      (((T (serviceFits n (holdMastership (s .core .service))) × T (all (queueFits (mastershipFits n)) (column eventsAt n nodes))) × T (all (learnedFits n) (column learnedAt n nodes)))
+      (((T (serviceFits n (holdMastership (s .core .service))) × T (all (queueFits (mastershipFits n)) (column eventsAt n controllers))) × T (all (learnedFits n) (column learnedAt n controllers)))
       × (((((i : ℕ) → i < n → At i) × T (distinctIds (column idAt n (claims .ids)))) × All (λ o. T (s .running || not o)) opens) × (claims .last .0 ≤ topTerm)))
   unfolding coreFits deskFits holdCore holdDesk
   is-core few =
-      let a = k .nodes in
+      let a = k .controllers in
       is-map (λ t. let d = t .0 .0 .0 .0 in (((d .0 .1, d .1), t .0 .0 .1), t .1)) (λ h. let f = h .0 in (((((((tt, f .0 .0), f .0 .1), tt), f .1), tt), h .1)))
-      (sure (is-eq (length (column eventsAt n nodes)) n) (length-column eventsAt n nodes (omega arith))
+      (sure (is-eq (length (column eventsAt n controllers)) n) (length-column eventsAt n controllers (omega arith))
       & as-is (serviceFits n (holdMastership (s .core .service)))
-      & as-is (all (queueFits (mastershipFits n)) (column eventsAt n nodes))
-      & sure (is-eq (length (column learnedAt n nodes)) n) (length-column learnedAt n nodes (omega arith))
-      & as-is (all (learnedFits n) (column learnedAt n nodes))
-      & sure (is-eq (length (column saysAt n nodes)) n) (length-column saysAt n nodes (omega arith))
-      & is-wire few)
+      & as-is (all (queueFits (mastershipFits n)) (column eventsAt n controllers))
+      & sure (is-eq (length (column learnedAt n controllers)) n) (length-column learnedAt n controllers (omega arith))
+      & as-is (all (learnedFits n) (column learnedAt n controllers))
+      & sure (is-eq (length (column saysAt n controllers)) n) (length-column saysAt n controllers (omega arith))
+      & is-board few)
 
   abbrev tidyFacts : Type 0
-  tidyFacts = (((((T (tidyMastership (s .core .service)) × T (all tidyNode (take n nodes))) × T (all blankNode (drop n nodes))) × All (λ r. T (tidyStream r)) (take n streams))
+  tidyFacts = (((((T (tidyMastership (s .core .service)) × T (all tidyController (take n controllers))) × T (all blankController (drop n controllers))) × All (λ r. T (tidyStream r)) (take n streams))
       × All (λ r. T (blankStream r)) (drop n streams)) × All (λ x. T (blankId x)) (drop n (claims .ids))) × All (λ x. T (blankTerm x)) (drop n (claims .terms))
 
   is-tidy : Is (tidyCore n (s .core)) tidyFacts
   unfolding tidyCore
-  is-tidy = as-is (tidyMastership (s .core .service)) & as-is (all tidyNode (take n nodes)) & as-is (all blankNode (drop n nodes))
+  is-tidy = as-is (tidyMastership (s .core .service)) & as-is (all tidyController (take n controllers)) & as-is (all blankController (drop n controllers))
       & is-all (λ r. as-is (tidyStream r)) (take n streams) & is-all (λ r. as-is (blankStream r)) (drop n streams)
       & is-all (λ x. as-is (blankId x)) (drop n (claims .ids)) & is-all (λ x. as-is (blankTerm x)) (drop n (claims .terms))
 
   is-state : Is (stateFits s) Facts
-  unfolding stateFits inRange hold holdWire
+  unfolding stateFits inRange hold holdBoard
   is-state =
       let w = holdHistory (s .history) in
-      let columns = is-nodes-columns n nodes (k .nodes) (k .node-rows) in
-      let four = as-is (all tidyNode (take n nodes)) & as-is (all (queueFits (mastershipFits n)) (column eventsAt n nodes))
-      & as-is (all (learnedFits n) (column learnedAt n nodes)) & as-is (all blankNode (drop n nodes)) in
+      let columns = is-controllers-columns n controllers (k .controllers) (k .controller-rows) in
+      let four = as-is (all tidyController (take n controllers)) & as-is (all (queueFits (mastershipFits n)) (column eventsAt n controllers))
+      & as-is (all (learnedFits n) (column learnedAt n controllers)) & as-is (all blankController (drop n controllers)) in
       let listed = as-is (leb (length w) historyLength) & as-is (all (writeFits n) w) in
       is-map
       (λ t. let y = t .0 .0 in let z = y .0 .0 .0 .0 in let c = t .1 .0 .0 .1 in
@@ -305,13 +305,13 @@ module _ (s : State) (k : Sized s) where
         service = c .0 .0 .0;
         rows = rows .0;
         blank-rows = rows .1;
-        wire = record { tidy = y .0 .0 .0 .1; fit = c .1 .0 .0 .0; stopped = c .1 .0 .1; blank = y .0 .0 .1; no-ids = y .0 .1; no-terms = y .1 };
+        board = record { tidy = y .0 .0 .0 .1; fit = c .1 .0 .0 .0; stopped = c .1 .0 .1; blank = y .0 .0 .1; no-ids = y .0 .1; no-terms = y .1 };
         ids = c .1 .0 .0 .1;
         last = c .1 .1;
         tidy-history = t .0 .1;
         history = listed .from (t .1 .0 .1, t .1 .1);
       })
-      (λ f. let m = four .to (columns .from (f .rows, f .blank-rows)) in let q = f .wire in let h = listed .to (f .history) in (
+      (λ f. let m = four .to (columns .from (f .rows, f .blank-rows)) in let q = f .board in let h = listed .to (f .history) in (
         (((((((f .tidy-service, m .0 .0 .0), m .1), q .tidy), q .blank), q .no-ids), q .no-terms), f .tidy-history),
         (((f .count, (((f .service, m .0 .0 .1), m .0 .1), (((q .fit, f .ids), q .stopped), f .last))), h .0), h .1),
       ))

@@ -18,13 +18,13 @@ use Rattle.parts.specs.declared.Mastership.{Mastership}
 use Rattle.parts.specs.declared.Request.{Request}
 use Rattle.parts.specs.declared.Response.{Response}
 use Rattle.state.specs.Hold.{eventsAt, learnedAt, requestsAt, responsesAt}
-use Rattle.state.specs.Tidy.{isZero, tidyMastership, blankMastership, tidyRequest, blankRequest, tidyResponse, blankResponse, tidyPlaces, tidyNode, blankNode, tidyStream, blankStream}
-use Rattle.state.specs.declared.Node.{Node}
+use Rattle.state.specs.Tidy.{isZero, tidyMastership, blankMastership, tidyRequest, blankRequest, tidyResponse, blankResponse, tidyPlaces, tidyController, blankController, tidyStream, blankStream}
+use Rattle.state.specs.declared.Controller.{Controller}
 use Rattle.state.specs.declared.Stream.{Stream}
-use Rattle.bridge.specs.Sized.{SizedMastership, SizedNode, SizedStream}
+use Rattle.bridge.specs.Sized.{SizedMastership, SizedController, SizedStream}
 use Rattle.bridge.specs.Rows.{all-any}
 use Rattle.queues.specs.Tests.{backupsTest, eventTest, blankTest, learnedTest, eventsTest, requestsTest, responsesTest}
-use Rattle.ranges.specs.Tests.{nodeTest, blankNodeTest, shutTest, queuesTest, streamTest}
+use Rattle.ranges.specs.Tests.{controllerTest, blankControllerTest, shutTest, queuesTest, streamTest}
 use Rattle.ranges.specs.Places.{is-then}
 use Rattle.ranges.specs.Masterships.{is-blank, is-learned}
 use Rattle.ranges.specs.Queues.{listFits, event, request, response, is-queue, is-none, none-fits, empty-held}
@@ -41,7 +41,7 @@ no-event m t = nobody (m .master) ((as-is (within 1 topTerm (m .term .0)) & as-i
 
 no-term : (m : Mastership) → T (blankMastership m) → m .term .0 ≡ 0
 unfolding blankMastership
-no-term m t = (is-eq (m .term .0) 0 & as-is (isZero (m .master)) & as-is (all isZero (m .backups)) & as-is (isZero (m .count))) .to t .0 .0 .0
+no-term m t = (is-eq (m .term .0) 0 & as-is (isZero (m .master)) & as-is (all isZero (m .backups)) & as-is (isZero (m .len))) .to t .0 .0 .0
 
 is-unlearned : (m : Mastership) → SizedMastership m → Is (learnedTest 0 m) (T (blankMastership m))
 unfolding learnedTest
@@ -58,7 +58,7 @@ no-mastership (m ∷ q) t = let a = (as-is (leb (length (m ∷ q)) queueLength) 
     let b = as-is (within 1 topTerm (m .term)) & as-is (within 1 0 (m .master)) & as-is (all (backupFits 0 (m .master)) (m .backups)) & as-is (distinct (m .backups)) in
     absurd (nobody (m .master) (b .to a .0 .0 .1))
 
-module _ (r : Node) (k : SizedNode r) where
+module _ (r : Controller) (k : SizedController r) where
   abbrev items : List Mastership
   items = r .events .items
 
@@ -66,9 +66,9 @@ module _ (r : Node) (k : SizedNode r) where
   unfolding eventsTest queueFits
   is-events n = is-queue (event n) queueLength items (k .events) (k .items) pastMastership (r .events .len)
 
-  pub is-node : (n : ℕ) → Is (nodeTest n r) (T (tidyNode r) × (T (queueFits (mastershipFits n) (eventsAt r)) × T (learnedFits n (learnedAt r))))
-  unfolding nodeTest tidyNode
-  is-node n =
+  pub is-controller : (n : ℕ) → Is (controllerTest n r) (T (tidyController r) × (T (queueFits (mastershipFits n) (eventsAt r)) × T (learnedFits n (learnedAt r))))
+  unfolding controllerTest tidyController
+  is-controller n =
       let both = as-is (tidyPlaces queueLength tidyMastership blankMastership items (r .events .len)) & as-is (tidyMastership (r .learned)) in
       is-map (λ t. (both .from (t .0 .0, t .1 .0), (t .0 .1, t .1 .1))) (λ h. let a = both .to (h .0) in ((a .0, h .1 .0), (a .1, h .1 .1)))
       (is-events n & is-learned (r .learned) (k .learned) n)
@@ -82,9 +82,9 @@ module _ (r : Node) (k : SizedNode r) where
       (λ t. let h = n .to t in (h .0, none-fits (event 0) queueLength items (k .events) (k .items) pastMastership (r .events .len) (h .1)))
       q
 
-  pub is-no-node : Is (blankNodeTest r) (T (blankNode r))
-  unfolding blankNodeTest nodeTest blankNode
-  is-no-node =
+  pub is-no-controller : Is (blankControllerTest r) (T (blankController r))
+  unfolding blankControllerTest controllerTest blankController
+  is-no-controller =
       let spec = as-is (all blankMastership items) & as-is (isZero (r .events .len)) & as-is (blankMastership (r .learned)) & as-is (not (r .says)) in
       let queue = as-is (all blankMastership items) & as-is (isZero (r .events .len)) in
       is-map

@@ -9,9 +9,9 @@ use Rattle.rules.specs.Queues.{before}
 use Rattle.rules.specs.Range.{each, within, writeFits}
 use Rattle.seqs.specs.Arrays.{column}
 use Rattle.state.specs.Hold.{idAt, holdWrite, noWrite}
-use Rattle.state.specs.Order.{pastNode, pastStream}
+use Rattle.state.specs.Order.{pastController, pastStream}
 use Rattle.state.specs.Tidy.{isZero, blankWrite}
-use Rattle.state.specs.declared.Node.{Node}
+use Rattle.state.specs.declared.Controller.{Controller}
 use Rattle.state.specs.declared.Stream.{Stream}
 use Rattle.state.specs.declared.Claims.{Claims}
 use Rattle.state.specs.declared.Core.{Core}
@@ -22,15 +22,15 @@ use Rattle.queues.specs.Tests.{place, placesTest, serviceTest, learnedTest, eve
 
 -- ---- rows
 
-unfoldable pub nodeTest : ℕ → Node → Bool
-nodeTest count r = eventsTest count (r .events) && learnedTest count (r .learned)
+unfoldable pub controllerTest : ℕ → Controller → Bool
+controllerTest count r = eventsTest count (r .events) && learnedTest count (r .learned)
 
 -- Among no nodes: there are no events, and nothing is learned.
-unfoldable pub blankNodeTest : Node → Bool
-blankNodeTest r = not (r .says) && nodeTest 0 r
+unfoldable pub blankControllerTest : Controller → Bool
+blankControllerTest r = not (r .says) && controllerTest 0 r
 
-unfoldable pub nodesTest : ℕ → List Node → Bool
-nodesTest count nodes = each mostNodes (place (nodeTest count) blankNodeTest pastNode nodes count)
+unfoldable pub controllersTest : ℕ → List Controller → Bool
+controllersTest count controllers = each mostNodes (place (controllerTest count) blankControllerTest pastController controllers count)
 
 unfoldable pub shutTest : Stream → ℕ → ℕ → Bool
 shutTest r id term = isZero (r .sent .0) && isZero (r .requests .len) && isZero (r .responses .len) && isZero id && isZero term
@@ -70,7 +70,7 @@ historyTest count h = placesTest historyLength (writeTest count) blankWrite noWr
 
 unfoldable pub coreTest : ℕ → Bool → Core → Bool
 coreTest count running c =
-    leb (c .claims .last .0) topTerm && serviceTest count (c .service) && nodesTest count (c .nodes) && streamsTest count running (c .streams) (c .claims)
+    leb (c .claims .last .0) topTerm && serviceTest count (c .service) && controllersTest count (c .controllers) && streamsTest count running (c .streams) (c .claims)
     && idsTest count (c .claims)
 
 unfoldable pub stateTest : State → Bool

@@ -20,7 +20,7 @@ fn core_fits(count: u8, running: bool, core: Core) -> bool
         return false;
     }
     if queues::masterships::service_fits(count, service) {
-        if rows::nodes_fit(count, core) {
+        if rows::controllers_fit(count, core) {
             if rows::streams_fit(count, running, core) {
                 return rows::ids_fit(count, claims);
             }
@@ -35,7 +35,7 @@ pub fn in_range(s: State) -> bool
 {
     let core = s.core;
     let history = s.history;
-    if queues::masterships::is_node(parts::MOST_NODES, s.count) {
+    if parts::is_node(parts::MOST_NODES, s.count) {
         if core_fits(s.count, s.running, core) {
             return rows::history_fits(s.count, history);
         }

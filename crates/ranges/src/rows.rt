@@ -3,22 +3,21 @@ ghost use mathlib.Core.Path.{_≡_};
 ghost use mathlib.Core.Bool.{cond, false};
 ghost use Prim.Native.Nat.{_≤_};
 ghost use Rattle.rules.specs.Limits.{mostNodes};
-ghost use Rattle.rules.specs.Queues.{before};
 ghost use Rattle.seqs.specs.Arrays.{column};
 ghost use Rattle.state.specs.Hold.{idAt};
 ghost use Rattle.state.specs.Tidy.{blankWrite};
-ghost use Rattle.ranges.specs.Tests.{nodeTest, blankNodeTest, nodesTest, shutTest, queuesTest, streamTest, streamsTest, idTest, idsTest, writeTest, historyTest};
+ghost use Rattle.ranges.specs.Tests.{controllerTest, blankControllerTest, controllersTest, shutTest, queuesTest, streamTest, streamsTest, idTest, idsTest, writeTest, historyTest};
 use parts::ElectionId;
 use parts::Term;
 use state::Claims;
+use state::Controller;
 use state::Core;
 use state::History;
-use state::Node;
 use state::Stream;
 use state::Write;
 
-fn node_fits(count: u8, row: Node) -> bool
-    ensures { λ r. ⌜ r ≡ nodeTest count row ⌝ }
+fn controller_fits(count: u8, row: Controller) -> bool
+    ensures { λ r. ⌜ r ≡ controllerTest count row ⌝ }
 {
     let events = row.events;
     let learned = row.learned;
@@ -29,32 +28,32 @@ fn node_fits(count: u8, row: Node) -> bool
 }
 
 // Among no nodes only a row without events that has learned nothing fits.
-fn node_is_blank(row: Node) -> bool
-    ensures { λ r. ⌜ r ≡ blankNodeTest row ⌝ }
+fn controller_is_blank(row: Controller) -> bool
+    ensures { λ r. ⌜ r ≡ blankControllerTest row ⌝ }
 {
     if row.says {
         return false;
     }
-    node_fits(0, row)
+    controller_fits(0, row)
 }
 
-fn node_place_fits(count: u8, used: bool, row: Node) -> bool
-    ensures { λ r. ⌜ r ≡ cond used (nodeTest count row) (blankNodeTest row) ⌝ }
+fn controller_place_fits(count: u8, used: bool, row: Controller) -> bool
+    ensures { λ r. ⌜ r ≡ cond used (controllerTest count row) (blankControllerTest row) ⌝ }
 {
     if used {
-        return node_fits(count, row);
+        return controller_fits(count, row);
     }
-    node_is_blank(row)
+    controller_is_blank(row)
 }
 
-pub fn nodes_fit(count: u8, core: Core) -> bool
-    ensures { λ r. ⌜ r ≡ nodesTest count (core .nodes) ⌝ }
+pub fn controllers_fit(count: u8, core: Core) -> bool
+    ensures { λ r. ⌜ r ≡ controllersTest count (core .controllers) ⌝ }
 {
     let mut i: u8 = 0;
     while i < parts::MOST_NODES {
         let at = i as usize;
-        let row = core.nodes[at];
-        if node_place_fits(count, i < count, row) {
+        let row = core.controllers[at];
+        if controller_place_fits(count, i < count, row) {
             i += 1;
         } else {
             return false;
@@ -146,23 +145,6 @@ pub fn streams_fit(count: u8, running: bool, core: Core) -> bool
     true
 }
 
-// The first of the places in use that holds the id; `count` where there is none.
-fn id_place(count: u8, claims: Claims, id: ElectionId) -> u8
-    requires { ⌜ count ≤ mostNodes ⌝ }
-    ensures { λ r. ⌜ r ≡ before (id .0) (column idAt count (claims .ids)) ⌝ }
-{
-    let mut i: u8 = 0;
-    while i < count {
-        let at = i as usize;
-        let held = claims.ids[at];
-        if held.0 == id.0 {
-            return i;
-        }
-        i += 1;
-    }
-    count
-}
-
 // Ids above 0 are distinct: each stands at its first place.
 fn id_fits(count: u8, claims: Claims, i: u8, id: ElectionId) -> bool
     requires { ⌜ count ≤ mostNodes ⌝ }
@@ -171,7 +153,8 @@ fn id_fits(count: u8, claims: Claims, i: u8, id: ElectionId) -> bool
     if id.0 == 0 {
         return true;
     }
-    id_place(count, claims, id) == i
+    let ids = claims.ids;
+    state::id_place(count, id, ids) == i
 }
 
 pub fn ids_fit(count: u8, claims: Claims) -> bool
@@ -195,7 +178,7 @@ fn write_fits(count: u8, e: Write) -> bool
     ensures { λ r. ⌜ r ≡ writeTest count e ⌝ }
 {
     let term = e.term;
-    if queues::masterships::is_node(count, e.node) {
+    if parts::is_node(count, e.node) {
         return queues::masterships::is_term(term);
     }
     false

@@ -70,8 +70,8 @@ pub fn put_parting(buf: &mut [u8], at: usize, parting: Parting) -> usize
 
 // Runs a list that is not refused. Gives the number of writes.
 fn run_good(list: &[u8], trailer: Trailer, out: &mut [u8]) -> u32
-    requires { ⌜ Trails (now list) trailer × (trailer .count + historyRoom ≤ length (now out)) ⌝ }
-    ensures { λ r. ⌜ Written (now (list .entry)) (trailer .count) (now (out .exit)) r ⌝ }
+    requires { ⌜ Trails (now list) trailer × (trailer .records + historyRoom ≤ length (now out)) ⌝ }
+    ensures { λ r. ⌜ Written (now (list .entry)) (trailer .records) (now (out .exit)) r ⌝ }
 {
     runner::run(list, out) - NO_WRITES
 }
@@ -87,7 +87,7 @@ fn put_runs(
     mine: &mut [u8],
     theirs: &mut [u8],
 ) -> usize
-    requires { ⌜ Trails (now first) one × Trails (now second) other × (one .count + historyRoom ≤ length (now mine)) × (other .count + historyRoom ≤ length (now theirs))
+    requires { ⌜ Trails (now first) one × Trails (now second) other × (one .records + historyRoom ≤ length (now mine)) × (other .records + historyRoom ≤ length (now theirs))
         × (at + 192 ≤ length (now buf)) ⌝ }
     ensures { λ r. ⌜ Put (now (buf .entry)) at (runsText (now (first .entry)) (now (second .entry))) (now (buf .exit)) r × (r ≤ at + 192) ⌝ }
 {
@@ -95,8 +95,8 @@ fn put_runs(
     let others = run_good(second, other, theirs);
     let numbers = [writes as u64, others as u64];
     let next = text::put_line(buf, at, b"writes", &numbers);
-    let behind = one.count;
-    let beyond = other.count;
+    let behind = one.records;
+    let beyond = other.records;
     let parting = partings::difference(
         &mine[behind..],
         writes as usize,

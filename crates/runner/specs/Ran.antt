@@ -4,7 +4,7 @@ use mathlib.Core.List.{List, _++_}
 use Prim.Native.Nat.{ℕ, _+_, _*_}
 use lib.ListN.{length}
 use lib.Dec.{eqb, leb}
-use Rattle.rules.specs.Codes.{bufferShort}
+use Rattle.rules.specs.Codes.{outTooShort}
 use Rattle.rules.specs.Limits.{historyLength}
 use Rattle.rules.specs.State.{State}
 use Rattle.rules.specs.Part.{Result}
@@ -24,7 +24,7 @@ noWrites = 256
 unfoldable pub runRefusal : List ℕ → List ℕ → ℕ
 runRefusal list out =
     cond (eqb (refusal list) 0)
-    (need (leb (recordCount list + historyRoom) (length out)) bufferShort 0)
+    (need (leb (recordCount list + historyRoom) (length out)) outTooShort 0)
     (refusal list)
 
 -- The answers to all records, in order, and the state that they leave.

@@ -5,7 +5,7 @@ use mathlib.Core.List.{List}
 use Prim.Native.Nat.{ℕ, _+_, _≤_, _<_}
 use lib.ListN.{length}
 use borrow.Author.Tests.{eq-eqb, ne-eqb, le-leb, lt-leb}
-use Rattle.rules.specs.Codes.{bufferShort}
+use Rattle.rules.specs.Codes.{outTooShort}
 use Rattle.lists.specs.EventList.{recordCount, refusal}
 use Rattle.runner.specs.Ran.{historyRoom, runRefusal, wholeRun, completed, ran}
 
@@ -15,7 +15,7 @@ module _ (list out : List ℕ) where
   ran-refused h = simp (ne-eqb (refusal list) 0 h)
 
   module _ (good : refusal list ≡ 0) where
-    pub ran-short : length out < recordCount list + historyRoom → ran list out ≡ record { returned = bufferShort; out = out }
+    pub ran-short : length out < recordCount list + historyRoom → ran list out ≡ record { returned = outTooShort; out = out }
     unfolding ran runRefusal
     ran-short h = simp (eq-eqb (refusal list) 0 good, lt-leb (recordCount list + historyRoom) (length out) h)
 

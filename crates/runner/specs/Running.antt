@@ -35,17 +35,17 @@ abbrev pub ifAccepted : Bool → Write → List Write
 ifAccepted b w = cond b (w ∷ []) []
 
 -- Its entry, in a buffer that a run fills.
-pub filled-accepted : (count : ℕ) (out : List ℕ) → count ≤ length out → (answers : List ℕ) (ws : List Write) (b : Bool) (w : Write) → length answers ≤ count
-    → (b ≡ true → count + 4 * length ws + 4 ≤ length out)
-    → sets (filled count answers ws out) (count + 4 * length ws) (historyBytes (ifAccepted b w)) ≡ filled count answers (ws ++ ifAccepted b w) out
+pub filled-accepted : (total : ℕ) (out : List ℕ) → total ≤ length out → (answers : List ℕ) (ws : List Write) (b : Bool) (w : Write) → length answers ≤ total
+    → (b ≡ true → total + 4 * length ws + 4 ≤ length out)
+    → sets (filled total answers ws out) (total + 4 * length ws) (historyBytes (ifAccepted b w)) ≡ filled total answers (ws ++ ifAccepted b w) out
 unfolding historyBytes push
-filled-accepted count out h answers ws true w k room = filled-entry count out h answers ws w k (room refl)
-filled-accepted count out h answers ws false w k room = ap (λ (l : List Write). filled count answers l out) (sym (append-nil ws))
+filled-accepted total out h answers ws true w k room = filled-entry total out h answers ws w k (room refl)
+filled-accepted total out h answers ws false w k room = ap (λ (l : List Write). filled total answers l out) (sym (append-nil ws))
 
 -- The list is not refused, the trailer is its own, and the buffer of `size` bytes is long enough.
 pub record Runs (list : List ℕ) (t : Trailer) (size : ℕ) : Type 0 where
   pub trailer : Trails list t
-  pub room : t .count + historyRoom ≤ size
+  pub room : t .records + historyRoom ≤ size
 
 -- The answers to the first i records, and the state that they leave.
 abbrev pub after : List ℕ → ℕ → Result (List ℕ) State
@@ -100,7 +100,7 @@ module _ {list : List ℕ} {t : Trailer} (out₀ : List ℕ) (runs : Runs list t
           omega arith
 
       pub goes-on : i < recordCount list → {out′ : List ℕ}
-          → out′ ≡ sets (set out i (m .code)) (t .count + 4 * n) (historyBytes (ifAccepted (m .accepted) (record { node = e .node; term = m .term .0 })))
+          → out′ ≡ sets (set out i (m .code)) (t .records + 4 * n) (historyBytes (ifAccepted (m .accepted) (record { node = e .node; term = m .term .0 })))
           → {n′ : ℕ} → n′ ≡ n + length (ifAccepted (m .accepted) (record { node = e .node; term = m .term .0 }))
           → Running list out₀ (i + 1) out′ (m .body) n′
       unfolding s
@@ -109,7 +109,7 @@ module _ {list : List ℕ} {t : Trailer} (out₀ : List ℕ) (runs : Runs list t
         writes = g ∙ ap (λ (k : ℕ). k + length ws) (now .writes) ∙ sym (length-append (s .history) ws) ∙ ap length (sym more-history);
         filling =
             f
-            ∙ ap (λ (k : ℕ). sets (set out i (m .code)) (k + 4 * n) (historyBytes ws)) (runs .trailer .count)
+            ∙ ap (λ (k : ℕ). sets (set out i (m .code)) (k + 4 * n) (historyBytes ws)) (runs .trailer .records)
             ∙ ap₂ (λ (l : List ℕ) (k : ℕ). sets (set l i (m .code)) (recordCount list + 4 * k) (historyBytes ws)) (now .filling) (now .writes)
             ∙ ap (λ (k : ℕ). sets (set (filled (recordCount list) (after list i .answer) (s .history) out₀) k (m .code)) (recordCount list + 4 * length (s .history)) (historyBytes ws)) (sym (passed i (omega arith)))
             ∙ ap (λ (l : List ℕ). sets l (recordCount list + 4 * length (s .history)) (historyBytes ws))
@@ -139,10 +139,10 @@ module _ {list : List ℕ} {t : Trailer} (out₀ : List ℕ) (runs : Runs list t
           fit : length (push (m .code) (after list i .answer)) ≤ recordCount list
           fit = let p = passed (i + 1) (omega arith) in let q = ap length more-answers in omega arith
 
-  pub ends : {n : ℕ} {out : List ℕ} {b : Body} → Running list out₀ (t .count) out b n
+  pub ends : {n : ℕ} {out : List ℕ} {b : Body} → Running list out₀ (t .records) out b n
       → (n ≡ length (wholeRun list .state .history)) × (out ≡ over (wholeRun list .answer ++ historyBytes (wholeRun list .state .history)) out₀)
   ends now =
-      let all : take (t .count) (records list) ≡ records list = ap (λ (k : ℕ). take k (records list)) (runs .trailer .count) ∙ records-all list in
+      let all : take (t .records) (records list) ≡ records list = ap (λ (k : ℕ). take k (records list)) (runs .trailer .records) ∙ records-all list in
       let r = run-length step (fresh (nodeCount list)) (records list) ∙ records-length list in (
         now .writes ∙ ap (λ (es : List Event). length (run step (fresh (nodeCount list)) es .state .history)) all,
         now .filling

@@ -29,51 +29,51 @@ fn fresh_table(nodes: u8) -> Table
 {
     let core = state::blank_core();
     let service = core.service;
-    let rows = core.nodes;
+    let rows = core.controllers;
     let streams = core.streams;
     let claims = core.claims;
     Table {
         count: nodes,
         running: true,
         service: service,
-        nodes: rows,
+        controllers: rows,
         streams: streams,
         claims: claims,
     }
 }
 
-// An accepted write joins the history. Gives the number of writes.
-fn keep(out: &mut [u8], count: usize, writes: u16, entry: Entry) -> u16
-    requires { ⌜ (count + historyRoom ≤ length (now out)) × (entry .accepted ≡ true → writes < historyLength) ⌝ }
+// An accepted write joins the history, behind so many answers. Gives the number of writes.
+fn keep(out: &mut [u8], answers: usize, writes: u16, entry: Entry) -> u16
+    requires { ⌜ (answers + historyRoom ≤ length (now out)) × (entry .accepted ≡ true → writes < historyLength) ⌝ }
     ensures { λ r. ⌜ (r ≡ writes + length (ifAccepted (entry .accepted) (record { node = entry .node; term = entry .term .0 })))
-        × (now (out .exit) ≡ sets (now (out .entry)) (count + 4 * writes) (historyBytes (ifAccepted (entry .accepted) (record { node = entry .node; term = entry .term .0 })))) ⌝ }
+        × (now (out .exit) ≡ sets (now (out .entry)) (answers + 4 * writes) (historyBytes (ifAccepted (entry .accepted) (record { node = entry .node; term = entry .term .0 })))) ⌝ }
 {
     if entry.accepted {
         let term = entry.term;
-        lists::write_entry(out, count, writes as usize, entry.node, term);
+        lists::write_entry(out, answers, writes as usize, entry.node, term);
         return writes + 1;
     }
     writes
 }
 
 // Runs all records. Gives the number of writes. The state stays in one local that every step stores into where it stands: a function that took the
-// state would copy it. So a post, too, is a turn of this loop for each node: `told` is how many have heard of the service's mastership.
+// state would copy it. So a post, too, is a turn of this loop for each node: `reached` is how many have heard of the service's mastership.
 fn run_records(list: &[u8], trailer: Trailer, out: &mut [u8]) -> u16
     requires { ⌜ Runs (now list) trailer (length (now out)) ⌝ }
     ensures { λ r. ⌜ (r ≡ length (wholeRun (now (list .entry)) .state .history))
         × (now (out .exit) ≡ over (wholeRun (now (list .entry)) .answer ++ historyBytes (wholeRun (now (list .entry)) .state .history)) (now (out .entry))) ⌝ }
 {
     let mut table = fresh_table(trailer.nodes);
-    let mut told = trailer.nodes;
+    let mut reached = trailer.nodes;
     let mut writes: u16 = 0;
     let mut i: usize = 0;
-    while i < trailer.count {
-        if told < table.count {
-            let at = told as usize;
-            let node = table.nodes[at];
+    while i < trailer.records {
+        if reached < table.count {
+            let at = reached as usize;
+            let controller = table.controllers[at];
             let service = table.service;
-            table.nodes[at] = service::hear(node, service);
-            told += 1;
+            table.controllers[at] = service::hear(controller, service);
+            reached += 1;
             continue;
         }
         let event = lists::read_record(list, trailer.first, i);
@@ -81,22 +81,22 @@ fn run_records(list: &[u8], trailer: Trailer, out: &mut [u8]) -> u16
             count: table.count,
             running: table.running,
             kind: event.kind,
-            number: event.node,
+            node: event.node,
         };
         let code = if asks::at_row(ask) {
-            let at = (ask.number - 1) as usize;
-            let node = table.nodes[at];
+            let at = (ask.node - 1) as usize;
+            let controller = table.controllers[at];
             let stream = table.streams[at];
             let claims = table.claims;
-            turns::row_code(ask, writes, node, stream, claims)
+            turns::row_code(ask, writes, controller, stream, claims)
         } else if asks::at_desk(ask) {
             let service = table.service;
-            let rows = table.nodes;
+            let rows = table.controllers;
             turns::desk_code(ask, service, rows)
         } else {
             let streams = table.streams;
             let claims = table.claims;
-            turns::wire_code(ask, streams, claims)
+            turns::board_code(ask, streams, claims)
         };
         out[i] = code;
         i += 1;
@@ -104,22 +104,22 @@ fn run_records(list: &[u8], trailer: Trailer, out: &mut [u8]) -> u16
             continue;
         }
         if asks::at_row(ask) {
-            let at = (ask.number - 1) as usize;
-            let node = table.nodes[at];
-            if ask.kind == turns::LEARN {
-                table.nodes[at] = nodes::learn(node);
+            let at = (ask.node - 1) as usize;
+            let controller = table.controllers[at];
+            if ask.kind == parts::LEARN {
+                table.controllers[at] = nodes::learn(controller);
                 continue;
             }
             let stream = table.streams[at];
             let claims = table.claims;
-            let row = turns::row_after(ask, node, stream, claims);
+            let row = turns::row_after(ask, controller, stream, claims);
             let next = row.stream;
             let held = row.claims;
             let entry = row.entry;
-            table.nodes[at].says = row.says;
+            table.controllers[at].says = row.says;
             table.streams[at] = next;
             table.claims = held;
-            writes = keep(&mut *out, trailer.count, writes, entry);
+            writes = keep(&mut *out, trailer.records, writes, entry);
             continue;
         }
         if asks::at_desk(ask) {
@@ -127,15 +127,15 @@ fn run_records(list: &[u8], trailer: Trailer, out: &mut [u8]) -> u16
             let next = turns::service_after(ask, service);
             table.service = next;
             if turns::posts(ask, service) {
-                told = 0;
+                reached = 0;
             }
             continue;
         }
         let streams = table.streams;
         let claims = table.claims;
-        let wire = turns::wire_after(ask, streams, claims);
-        let next = wire.streams;
-        let held = wire.claims;
+        let board = turns::board_after(ask, streams, claims);
+        let next = board.streams;
+        let held = board.claims;
         table.streams = next;
         table.claims = held;
         table.running = asks::runs_after(ask);
@@ -151,11 +151,11 @@ pub fn run(list: &[u8], out: &mut [u8]) -> u32
 {
     let trailer = lists::read_trailer(list);
     if trailer.code == parts::DONE {
-        if trailer.count + HISTORY_ROOM <= out.len() {
+        if trailer.records + HISTORY_ROOM <= out.len() {
             let writes = run_records(list, trailer, out);
             return NO_WRITES + writes as u32;
         }
-        return parts::BUFFER_SHORT as u32;
+        return parts::OUT_TOO_SHORT as u32;
     }
     trailer.code as u32
 }

@@ -43,24 +43,24 @@ module _ {A B : Type 0} (blank : B) (rep : A → B) (hold : B → A) where
     -- fullness is that of the list
     pub room-held : room (held hold q) ≡ not (full q)
     unfolding room
-    room-held = go (decLt (q .len) 8)
+    room-held = go (decLt (q .len) queueLength)
       where
-        go : Dec (q .len < 8) → ltb (length (held hold q)) 8 ≡ not (leb 8 (q .len))
-        go (yes h) = rw (← len-held) (simp (lt-ltb (q .len) 8 h, lt-leb 8 (q .len) h))
-        go (no h) = rw (← len-held) (let k : 8 ≤ q .len = omega arith in simp (le-ltb (q .len) 8 k, le-leb 8 (q .len) k))
+        go : Dec (q .len < queueLength) → ltb (length (held hold q)) queueLength ≡ not (leb queueLength (q .len))
+        go (yes h) = rw (← len-held) (simp (lt-ltb (q .len) queueLength h, lt-leb queueLength (q .len) h))
+        go (no h) = rw (← len-held) (let k : queueLength ≤ q .len = omega arith in simp (le-ltb (q .len) queueLength k, le-leb queueLength (q .len) k))
 
     pub push-held : (x : A) → full q ≡ false → pushed q (rep x) ≡ packed blank rep (push x (held hold q))
     unfolding pushed push room
     push-held x f =
         let n : q .len ≡ length (held hold q) = len-held in
-        let k : length (held hold q) < 8 = ltb→lt (length (held hold q)) 8 (rw (roomy f) tt) in
+        let k : length (held hold q) < queueLength = ltb→lt (length (held hold q)) queueLength (rw (roomy f) tt) in
         ap (λ (b : Bool). cond b q (record { items = set (q .items) (q .len) (rep x); len = q .len + 1 })) f
         ∙ (λ i. record {
-          items = (ap (λ (p : Queue B). set (p .items) (p .len) (rep x)) (sym (o .same)) ∙ padded-push blank rep 8 (held hold q) x k) i;
+          items = (ap (λ (p : Queue B). set (p .items) (p .len) (rep x)) (sym (o .same)) ∙ padded-push blank rep queueLength (held hold q) x k) i;
           len = (ap (λ (m : ℕ). m + 1) n ∙ sym (length-append (held hold q) (x ∷ []))) i;
         })
       where
-        roomy : full q ≡ false → ltb (length (held hold q)) 8 ≡ true
+        roomy : full q ≡ false → ltb (length (held hold q)) queueLength ≡ true
         roomy f = room-held ∙ ap not f
 
     -- taking off the head of a queue that holds something, or of one that holds nothing
@@ -68,9 +68,9 @@ module _ {A B : Type 0} (blank : B) (rep : A → B) (hold : B → A) where
     unfolding popped rest
     pop-held = ap (popped blank) (sym (o .same)) ∙ go (held hold q) (o .short)
       where
-        go : (l : List A) → length l ≤ 8 → popped blank (packed blank rep l) ≡ packed blank rep (rest l)
+        go : (l : List A) → length l ≤ queueLength → popped blank (packed blank rep l) ≡ packed blank rep (rest l)
         go [] h = refl
-        go (x ∷ l) h = rw (eqb·suc-zero (length l)) λ i. record { items = padded-pop blank rep 7 x l (let z : suc (length l) ≤ 8 = h in omega arith) i; len = (one (length l)) i }
+        go (x ∷ l) h = rw (eqb·suc-zero (length l)) λ i. record { items = padded-pop blank rep (queueLength - 1) x l (let z : suc (length l) ≤ queueLength = h in omega arith) i; len = (one (length l)) i }
           where
             one : (k : ℕ) → suc k - 1 ≡ k
             one k = omega arith

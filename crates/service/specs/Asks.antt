@@ -5,7 +5,7 @@ use mathlib.Core.Bool.{true, cond}
 use Prim.Native.Nat.{ℕ, _+_, _≤_, _<_}
 use lib.Dec.{ltb}
 use lib.ListN.{length}
-use Rattle.rules.specs.Limits.{topTerm}
+use Rattle.rules.specs.Limits.{mostBackups, topTerm}
 use Rattle.rules.specs.Queues.{first, rest, has, remove}
 use Rattle.rules.specs.Ids.{named}
 use Rattle.rules.specs.State as S
@@ -13,13 +13,13 @@ use Rattle.parts.specs.Hold.{holdMastership}
 use Rattle.parts.specs.Queues.{pushEvent}
 use Rattle.parts.specs.Ordered.{OrderedMastership}
 use Rattle.parts.specs.declared.Mastership.{Mastership}
-use Rattle.state.specs.declared.Node.{Node}
+use Rattle.state.specs.declared.Controller.{Controller}
 
 -- The service's mastership, with room for one backup more where it has a master.
 pub record Joins (m : Mastership) : Type 0 where
   pub ordered : OrderedMastership m
   pub term : m .term .0 ≤ topTerm
-  pub spare : m .master ≢ 0 → length (holdMastership m .backups) < 7
+  pub spare : m .master ≢ 0 → length (holdMastership m .backups) < mostBackups
 
 -- The mastership names the node.
 pub record Leaving (m : Mastership) (n : ℕ) : Type 0 where
@@ -31,7 +31,7 @@ pub record Leaving (m : Mastership) (n : ℕ) : Type 0 where
 pub record Promotes (m : Mastership) : Type 0 where
   pub ordered : OrderedMastership m
   pub term : m .term .0 ≤ topTerm
-  pub some : 1 ≤ m .count
+  pub some : 1 ≤ m .len
 
 -- The mastership has the node among its backups, and it is not the master.
 pub record Leaves (m : Mastership) (n : ℕ) : Type 0 where
@@ -40,7 +40,7 @@ pub record Leaves (m : Mastership) (n : ℕ) : Type 0 where
   pub among : has n (holdMastership m .backups) ≡ true
 
 -- A node that hears of a mastership.
-abbrev pub hears : Mastership → Node → Node
+abbrev pub hears : Mastership → Controller → Controller
 hears m r = record { events = pushEvent (r .events) m; learned = r .learned; says = r .says }
 
 -- The place of the i-th that is kept, where the one at `gone` is not.

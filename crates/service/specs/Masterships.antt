@@ -8,6 +8,7 @@ use native.Mathlib.Omega.{arith}
 use lib.Dec.{ltb}
 use lib.ListN.{length, getD, set, drop, take, length-append}
 use borrow.Author.Tests.{eq-eqb, ne-eqb, lt-ltb, le-ltb}
+use Rattle.rules.specs.Limits.{mostBackups}
 use Rattle.rules.specs.State as S
 use Rattle.rules.specs.Queues.{push, first, rest, empty, has}
 use Rattle.rules.specs.Ids.{named}
@@ -20,56 +21,56 @@ use Rattle.parts.specs.declared.Mastership.{Mastership}
 use Rattle.service.specs.Asks.{handedOver, withoutBackup}
 
 module _ (m : Mastership) (o : OrderedMastership m) where
-  pub backups-count : m .count ≡ length (holdMastership m .backups)
-  backups-count = ap (λ (x : Mastership). x .count) (sym (o .same))
+  pub backups-len : m .len ≡ length (holdMastership m .backups)
+  backups-len = ap (λ (x : Mastership). x .len) (sym (o .same))
 
-  pub joined-backup : (n : ℕ) → m .master ≢ 0 → length (holdMastership m .backups) < 7
-      → record { term = m .term; master = m .master; backups = set (m .backups) (m .count) n; count = m .count + 1 } ≡ packMastership (joined n (holdMastership m))
+  pub joined-backup : (n : ℕ) → m .master ≢ 0 → length (holdMastership m .backups) < mostBackups
+      → record { term = m .term; master = m .master; backups = set (m .backups) (m .len) n; len = m .len + 1 } ≡ packMastership (joined n (holdMastership m))
   unfolding joined vacant push
   joined-backup n h k = simp (ne-eqb (m .master) 0 h) λ i. record {
     term = m .term;
     master = m .master;
-    backups = (ap (λ (x : Mastership). set (x .backups) (x .count) n) (sym (o .same)) ∙ padded-push 0 asIs 7 (holdMastership m .backups) n k) i;
-    count = (ap (λ (x : ℕ). x + 1) backups-count ∙ sym (length-append (holdMastership m .backups) (n ∷ []))) i;
+    backups = (ap (λ (x : Mastership). set (x .backups) (x .len) n) (sym (o .same)) ∙ padded-push 0 asIs mostBackups (holdMastership m .backups) n k) i;
+    len = (ap (λ (x : ℕ). x + 1) backups-len ∙ sym (length-append (holdMastership m .backups) (n ∷ []))) i;
   }
 
   -- the head of the backups, and the others moved up
-  pub handed-over : 1 ≤ m .count
-      → record { term = record { 0 = m .term .0 + 1 }; master = getD (m .backups) 0 0; backups = drop 1 (m .backups) ++ (0 ∷ []); count = m .count - 1 } ≡ packMastership (handedOver (holdMastership m))
+  pub handed-over : 1 ≤ m .len
+      → record { term = record { 0 = m .term .0 + 1 }; master = getD (m .backups) 0 0; backups = drop 1 (m .backups) ++ (0 ∷ []); len = m .len - 1 } ≡ packMastership (handedOver (holdMastership m))
   unfolding first rest
-  handed-over h = go (holdMastership m .backups) refl (o .short) (let e = backups-count in omega arith)
+  handed-over h = go (holdMastership m .backups) refl (o .short) (let e = backups-len in omega arith)
     where
-      front : (l : List ℕ) → holdMastership m .backups ≡ l → m .backups ≡ padded 0 asIs 7 l
-      front l e = ap (λ (x : Mastership). x .backups) (sym (o .same)) ∙ ap (padded 0 asIs 7) e
+      front : (l : List ℕ) → holdMastership m .backups ≡ l → m .backups ≡ padded 0 asIs mostBackups l
+      front l e = ap (λ (x : Mastership). x .backups) (sym (o .same)) ∙ ap (padded 0 asIs mostBackups) e
 
-      go : (l : List ℕ) → holdMastership m .backups ≡ l → length (holdMastership m .backups) ≤ 7 → 1 ≤ length (holdMastership m .backups)
-          → record { term = record { 0 = m .term .0 + 1 }; master = getD (m .backups) 0 0; backups = drop 1 (m .backups) ++ (0 ∷ []); count = m .count - 1 } ≡ packMastership (handedOver (holdMastership m))
+      go : (l : List ℕ) → holdMastership m .backups ≡ l → length (holdMastership m .backups) ≤ mostBackups → 1 ≤ length (holdMastership m .backups)
+          → record { term = record { 0 = m .term .0 + 1 }; master = getD (m .backups) 0 0; backups = drop 1 (m .backups) ++ (0 ∷ []); len = m .len - 1 } ≡ packMastership (handedOver (holdMastership m))
       go [] e s k = let z = ap length e in absurd (omega arith)
       go (x ∷ l) e s k =
           let f = front (x ∷ l) e in
           let z : length (holdMastership m .backups) ≡ suc (length l) = ap length e in
-          let c = backups-count in
+          let c = backups-len in
           λ i. record {
             term = record { 0 = m .term .0 + 1 };
             master = (ap (λ (t : List ℕ). getD t 0 0) f ∙ ap (first 0) (sym e)) i;
-            backups = (ap (λ (t : List ℕ). drop 1 t ++ (0 ∷ [])) f ∙ padded-pop 0 asIs 6 x l (omega arith) ∙ ap (λ (t : List ℕ). padded 0 asIs 7 (rest t)) (sym e)) i;
-            count = ((let p : m .count - 1 ≡ length l = omega arith in p) ∙ ap (λ (t : List ℕ). length (rest t)) (sym e)) i;
+            backups = (ap (λ (t : List ℕ). drop 1 t ++ (0 ∷ [])) f ∙ padded-pop 0 asIs 6 x l (omega arith) ∙ ap (λ (t : List ℕ). padded 0 asIs mostBackups (rest t)) (sym e)) i;
+            len = ((let p : m .len - 1 ≡ length l = omega arith in p) ∙ ap (λ (t : List ℕ). length (rest t)) (sym e)) i;
           }
 
-  pub vacated : m .count ≡ 0 → record { term = m .term; master = 0; backups = m .backups; count = m .count } ≡ packMastership (record { term = m .term .0; master = 0; backups = [] })
+  pub vacated : m .len ≡ 0 → record { term = m .term; master = 0; backups = m .backups; len = m .len } ≡ packMastership (record { term = m .term .0; master = 0; backups = [] })
   vacated e = go (holdMastership m .backups) refl
     where
-      go : (l : List ℕ) → holdMastership m .backups ≡ l → record { term = m .term; master = 0; backups = m .backups; count = m .count } ≡ packMastership (record { term = m .term .0; master = 0; backups = [] })
-      go (x ∷ l) f = let z = ap length f in let c = backups-count in absurd (omega arith)
+      go : (l : List ℕ) → holdMastership m .backups ≡ l → record { term = m .term; master = 0; backups = m .backups; len = m .len } ≡ packMastership (record { term = m .term .0; master = 0; backups = [] })
+      go (x ∷ l) f = let z = ap length f in let c = backups-len in absurd (omega arith)
       go [] f = λ i. record {
         term = m .term;
         master = 0;
-        backups = (ap (λ (x : Mastership). x .backups) (sym (o .same)) ∙ ap (padded 0 asIs 7) f) i;
-        count = e i;
+        backups = (ap (λ (x : Mastership). x .backups) (sym (o .same)) ∙ ap (padded 0 asIs mostBackups) f) i;
+        len = e i;
       }
 
--- a count of backups is 0 exactly if none are held
-pub some-taken : (n : ℕ) (l : List ℕ) → length l ≡ 7 → ltb 0 n ≡ not (empty (take n l))
+-- the length is 0 exactly if none are held
+pub some-taken : (n : ℕ) (l : List ℕ) → length l ≡ mostBackups → ltb 0 n ≡ not (empty (take n l))
 unfolding empty
 some-taken n [] e = absurd (omega arith)
 some-taken zero (x ∷ l) e = le-ltb 0 0 (omega arith)
@@ -82,23 +83,23 @@ unfolding named
 is-backup n m e h = simp (ne-eqb (m .master) n h) at e
 
 module _ (m : Mastership) (o : OrderedMastership m) (n : ℕ) where
-  none-held : m .count ≡ 0 → empty (holdMastership m .backups) ≡ true
+  none-held : m .len ≡ 0 → empty (holdMastership m .backups) ≡ true
   unfolding empty
   none-held e = rw e refl
 
-  pub left-vacant : m .master ≡ n → m .count ≡ 0 → record { term = m .term; master = 0; backups = m .backups; count = m .count } ≡ packMastership (left n (holdMastership m))
+  pub left-vacant : m .master ≡ n → m .len ≡ 0 → record { term = m .term; master = 0; backups = m .backups; len = m .len } ≡ packMastership (left n (holdMastership m))
   unfolding left handsOver
   left-vacant e f = simp (eq-eqb (m .master) n e, none-held f) (vacated m o f)
 
-  some-held : m .count ≢ 0 → empty (holdMastership m .backups) ≡ false
+  some-held : m .len ≢ 0 → empty (holdMastership m .backups) ≡ false
   unfolding empty
   some-held h = go (holdMastership m .backups) refl
     where
       go : (l : List ℕ) → holdMastership m .backups ≡ l → empty l ≡ false
-      go [] e = let z = ap length e in let c = backups-count m o in absurd (h (omega arith))
+      go [] e = let z = ap length e in let c = backups-len m o in absurd (h (omega arith))
       go (x ∷ l) e = refl
 
-  pub left-over : m .master ≡ n → m .count ≢ 0 → packMastership (handedOver (holdMastership m)) ≡ packMastership (left n (holdMastership m))
+  pub left-over : m .master ≡ n → m .len ≢ 0 → packMastership (handedOver (holdMastership m)) ≡ packMastership (left n (holdMastership m))
   unfolding left handsOver
   left-over e f = simp (eq-eqb (m .master) n e, some-held f)
 

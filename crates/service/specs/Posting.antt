@@ -21,10 +21,10 @@ use Rattle.parts.specs.Queues.{pushEvent}
 use Rattle.parts.specs.Ordered.{OrderedMastership, OrderedEvents, push-events}
 use Rattle.parts.specs.declared.Mastership.{Mastership}
 use Rattle.parts.specs.declared.EventQueue.{EventQueue}
-use Rattle.state.specs.Hold.{eventsAt, learnedAt, saysAt, packNode, nodeRow, packNodes}
-use Rattle.state.specs.Order.{OrderedNodes, pastNode}
+use Rattle.state.specs.Hold.{eventsAt, learnedAt, saysAt, packController, controllerRow, packControllers}
+use Rattle.state.specs.Order.{OrderedControllers, pastController}
 use Rattle.state.specs.Stores.{storeEvents}
-use Rattle.state.specs.declared.Node.{Node}
+use Rattle.state.specs.declared.Controller.{Controller}
 use Rattle.service.specs.Asks.{hears}
 
 -- ---- room
@@ -71,56 +71,56 @@ at-map f [] i d d′ h = absurd (omega arith)
 at-map f (x ∷ l) zero d d′ h = refl
 at-map f (x ∷ l) (suc i) d d′ h = at-map f l i d d′ (le-of-suc-le-suc h)
 
-module _ (count : ℕ) (nodes : List Node) (o : OrderedNodes count nodes) where
+module _ (count : ℕ) (controllers : List Controller) (o : OrderedControllers count controllers) where
   events : List (List S.Mastership)
-  events = column eventsAt count nodes
+  events = column eventsAt count controllers
 
-  pub node-rows : length nodes ≡ mostNodes
-  unfolding packNodes
-  node-rows = sym (ap length (o .same)) ∙ table-length mostNodes (nodeRow (column eventsAt count nodes) (column learnedAt count nodes) (column saysAt count nodes))
+  pub controller-rows : length controllers ≡ mostNodes
+  unfolding packControllers
+  controller-rows = sym (ap length (o .same)) ∙ table-length mostNodes (controllerRow (column eventsAt count controllers) (column learnedAt count controllers) (column saysAt count controllers))
 
-  pub events-length : length (column eventsAt count nodes) ≡ count
-  events-length = length-column eventsAt count nodes (let n = node-rows in let f = o .few in omega arith)
+  pub events-length : length (column eventsAt count controllers) ≡ count
+  events-length = length-column eventsAt count controllers (let n = controller-rows in let f = o .few in omega arith)
 
-  row : (i : ℕ) → i < mostNodes → getD nodes i pastNode ≡ nodeRow events (column learnedAt count nodes) (column saysAt count nodes) i
-  unfolding packNodes events
-  row i h = ap (λ (l : List Node). getD l i pastNode) (sym (o .same)) ∙ table-get mostNodes (nodeRow events (column learnedAt count nodes) (column saysAt count nodes)) i pastNode h
+  row : (i : ℕ) → i < mostNodes → getD controllers i pastController ≡ controllerRow events (column learnedAt count controllers) (column saysAt count controllers) i
+  unfolding packControllers events
+  row i h = ap (λ (l : List Controller). getD l i pastController) (sym (o .same)) ∙ table-get mostNodes (controllerRow events (column learnedAt count controllers) (column saysAt count controllers)) i pastController h
 
-  module _ (m : Mastership) (k : OrderedMastership m) (r : roomAll (column eventsAt count nodes) ≡ true) where
-    told : List (List S.Mastership)
-    told = map (push (holdMastership m)) events
+  module _ (m : Mastership) (k : OrderedMastership m) (r : roomAll (column eventsAt count controllers) ≡ true) where
+    afterPost : List (List S.Mastership)
+    afterPost = map (push (holdMastership m)) events
 
-    heard-row : (i : ℕ) → i < count → hears m (getD nodes i pastNode) ≡ nodeRow told (column learnedAt count nodes) (column saysAt count nodes) i
-    unfolding told events
+    heard-row : (i : ℕ) → i < count → hears m (getD controllers i pastController) ≡ controllerRow afterPost (column learnedAt count controllers) (column saysAt count controllers) i
+    unfolding afterPost events
     heard-row i h =
         let f = o .few in
-        let q = getD nodes i pastNode .events in
+        let q = getD controllers i pastController .events in
         let oq = o .rows i h .events in
-        let e : getD (column eventsAt count nodes) i [] ≡ holdEvents q = column-at eventsAt count i nodes pastNode h in
+        let e : getD (column eventsAt count controllers) i [] ≡ holdEvents q = column-at eventsAt count i controllers pastController h in
         let n = events-length in
-        let full : leb queueLength (q .len) ≡ false = not-true (leb queueLength (q .len)) (sym (room-of q oq) ∙ ap room (sym e) ∙ rooms-at (column eventsAt count nodes) i (omega arith) r) in
-        let pushed : pushEvent q m ≡ packEvents (getD told i []) =
+        let full : leb queueLength (q .len) ≡ false = not-true (leb queueLength (q .len)) (sym (room-of q oq) ∙ ap room (sym e) ∙ rooms-at (column eventsAt count controllers) i (omega arith) r) in
+        let pushed : pushEvent q m ≡ packEvents (getD afterPost i []) =
         ap (pushEvent q) (sym (k .same)) ∙ push-events q (holdMastership m) oq full
-        ∙ ap packEvents (ap (push (holdMastership m)) (sym e) ∙ sym (at-map (push (holdMastership m)) (column eventsAt count nodes) i [] [] (omega arith))) in
+        ∙ ap packEvents (ap (push (holdMastership m)) (sym e) ∙ sym (at-map (push (holdMastership m)) (column eventsAt count controllers) i [] [] (omega arith))) in
         let same = row i (omega arith) in
         λ j. record { events = pushed j; learned = same j .learned; says = same j .says }
 
-    still-row : (i : ℕ) → i < mostNodes → count ≤ i → getD nodes i pastNode ≡ nodeRow told (column learnedAt count nodes) (column saysAt count nodes) i
-    unfolding told events
+    still-row : (i : ℕ) → i < mostNodes → count ≤ i → getD controllers i pastController ≡ controllerRow afterPost (column learnedAt count controllers) (column saysAt count controllers) i
+    unfolding afterPost events
     still-row i h c =
         let n = events-length in
         row i h
-        ∙ ap (λ (q : List S.Mastership). packNode q (getD (column learnedAt count nodes) i S.blank) (getD (column saysAt count nodes) i false))
-        (List·getD-eq-default (column eventsAt count nodes) [] (omega arith)
-        ∙ sym (List·getD-eq-default (map (push (holdMastership m)) (column eventsAt count nodes)) [] (rw (length-map (column eventsAt count nodes) (push (holdMastership m))) (omega arith))))
+        ∙ ap (λ (q : List S.Mastership). packController q (getD (column learnedAt count controllers) i S.blank) (getD (column saysAt count controllers) i false))
+        (List·getD-eq-default (column eventsAt count controllers) [] (omega arith)
+        ∙ sym (List·getD-eq-default (map (push (holdMastership m)) (column eventsAt count controllers)) [] (rw (length-map (column eventsAt count controllers) (push (holdMastership m))) (omega arith))))
 
-    pub all-heard : mapFirst (hears m) count nodes ≡ storeEvents (map (push (holdMastership m)) (column eventsAt count nodes)) count nodes
-    unfolding packNodes told events
+    pub all-heard : mapFirst (hears m) count controllers ≡ storeEvents (map (push (holdMastership m)) (column eventsAt count controllers)) count controllers
+    unfolding packControllers afterPost events
     all-heard =
-        let n = node-rows in
-        table-of mostNodes (nodeRow told (column learnedAt count nodes) (column saysAt count nodes)) (mapFirst (hears m) count nodes) pastNode
-        (mapFirst-length (hears m) count nodes ∙ n) (λ i h. go i h (decLt i count))
+        let n = controller-rows in
+        table-of mostNodes (controllerRow afterPost (column learnedAt count controllers) (column saysAt count controllers)) (mapFirst (hears m) count controllers) pastController
+        (mapFirst-length (hears m) count controllers ∙ n) (λ i h. go i h (decLt i count))
       where
-        go : (i : ℕ) → i < mostNodes → Dec (i < count) → getD (mapFirst (hears m) count nodes) i pastNode ≡ nodeRow told (column learnedAt count nodes) (column saysAt count nodes) i
-        go i h (yes k) = mapFirst-in (hears m) count i nodes pastNode k (let n = node-rows in omega arith) ∙ heard-row i k
-        go i h (no k) = mapFirst-out (hears m) count i nodes pastNode (omega arith) ∙ still-row i h (omega arith)
+        go : (i : ℕ) → i < mostNodes → Dec (i < count) → getD (mapFirst (hears m) count controllers) i pastController ≡ controllerRow afterPost (column learnedAt count controllers) (column saysAt count controllers) i
+        go i h (yes k) = mapFirst-in (hears m) count i controllers pastController k (let n = controller-rows in omega arith) ∙ heard-row i k
+        go i h (no k) = mapFirst-out (hears m) count i controllers pastController (omega arith) ∙ still-row i h (omega arith)

@@ -10,6 +10,7 @@ use lib.Dec.{eqb, ltb}
 use lib.ListN.{length, getD, set, take}
 use lib.Seq.{length-take-le, take-suc}
 use borrow.Author.Tests.{eq-eqb, ne-eqb, lt-ltb, le-ltb}
+use Rattle.rules.specs.Limits.{mostBackups}
 use Rattle.rules.specs.Queues.{push, has, remove, before}
 use Rattle.seqs.specs.Arrays.{padded}
 use Rattle.seqs.specs.Padded.{padded-push}
@@ -50,9 +51,9 @@ skip-below i gone = go (ltb i gone)
     go false = omega arith
 
 -- one more of the list goes to the place behind those that are there
-pub padded-more : (l : List ℕ) (i : ℕ) (places : List ℕ) (x : ℕ) → places ≡ padded 0 asIs 7 (take i l) → i < length l → i < 7 → x ≡ getD l i 0 → set places i x ≡ padded 0 asIs 7 (take (i + 1) l)
+pub padded-more : (l : List ℕ) (i : ℕ) (places : List ℕ) (x : ℕ) → places ≡ padded 0 asIs mostBackups (take i l) → i < length l → i < mostBackups → x ≡ getD l i 0 → set places i x ≡ padded 0 asIs mostBackups (take (i + 1) l)
 unfolding push
 padded-more l i places x e h k f =
     let n : length (take i l) ≡ i = length-take-le i l (omega arith) in
-    ap (λ (p : List ℕ). set p i x) e ∙ ap (λ (j : ℕ). set (padded 0 asIs 7 (take i l)) j x) (sym n) ∙ padded-push 0 asIs 7 (take i l) x (omega arith)
-    ∙ ap (padded 0 asIs 7) (ap (λ (y : ℕ). take i l ++ (y ∷ [])) f ∙ sym (take-suc l i 0 h) ∙ ap (λ (j : ℕ). take j l) (sym (add-one i)))
+    ap (λ (p : List ℕ). set p i x) e ∙ ap (λ (j : ℕ). set (padded 0 asIs mostBackups (take i l)) j x) (sym n) ∙ padded-push 0 asIs mostBackups (take i l) x (omega arith)
+    ∙ ap (padded 0 asIs mostBackups) (ap (λ (y : ℕ). take i l ++ (y ∷ [])) f ∙ sym (take-suc l i 0 h) ∙ ap (λ (j : ℕ). take j l) (sym (add-one i)))

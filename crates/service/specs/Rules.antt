@@ -5,7 +5,7 @@ use mathlib.Core.Bool.{Bool, true, false, cond}
 use Prim.Native.Nat.{ℕ, _≤_, _<_}
 use borrow.Author.Tests.{eq-eqb, ne-eqb, lt-ltb, le-ltb}
 use Rattle.rules.specs.Limits.{topTerm}
-use Rattle.rules.specs.Codes.{stepDone, notAllowed, termsSpent, queueFull}
+use Rattle.rules.specs.Codes.{stepDone, notAllowed, termLimit, queueFull}
 use Rattle.rules.specs.State.{Desk}
 use Rattle.rules.specs.Queues.{roomAll}
 use Rattle.rules.specs.Ids.{named}
@@ -19,7 +19,7 @@ roomed true w = refl
 roomed false w = refl
 
 module _ (n : ℕ) (d : Desk) where
-  pub join-spent : d .service .master ≡ 0 → topTerm ≤ d .service .term → termsSpent ≡ answerOf (decide (joinRule n) d)
+  pub join-spent : d .service .master ≡ 0 → topTerm ≤ d .service .term → termLimit ≡ answerOf (decide (joinRule n) d)
   unfolding decide joinRule vacant
   join-spent e h = simp (eq-eqb (d .service .master) 0 e, le-ltb (d .service .term) topTerm h)
 
@@ -43,7 +43,7 @@ module _ (n : ℕ) (d : Desk) where
   unfolding decide leaveRule
   leave-quiet e f = simp (e, f)
 
-  pub leave-spent : named n (d .service) ≡ true → handsOver n (d .service) ≡ true → topTerm ≤ d .service .term → termsSpent ≡ answerOf (decide (leaveRule n) d)
+  pub leave-spent : named n (d .service) ≡ true → handsOver n (d .service) ≡ true → topTerm ≤ d .service .term → termLimit ≡ answerOf (decide (leaveRule n) d)
   unfolding decide leaveRule
   leave-spent e f h = simp (e, f, le-ltb (d .service .term) topTerm h)
 

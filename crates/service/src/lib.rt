@@ -12,24 +12,24 @@ ghost use Rattle.seqs.specs.Arrays.{column};
 ghost use Rattle.parts.specs.Hold.{holdMastership, packMastership};
 ghost use Rattle.parts.specs.Ordered.{OrderedMastership};
 ghost use Rattle.state.specs.Hold.{eventsAt, holdDesk};
-ghost use Rattle.state.specs.Order.{OrderedNodes};
+ghost use Rattle.state.specs.Order.{OrderedControllers};
 ghost use Rattle.state.specs.Reads.{answerOf};
 ghost use Rattle.state.specs.Stores.{storeEvents};
 ghost use Rattle.service.specs.Asks.{Joins, Leaves, Leaving, Promotes, hears, skipping, withoutBackup, handedOver};
 use parts::Mastership;
 use parts::Term;
-use state::Node;
+use state::Controller;
 
 // Whether every node has room for one event more.
-pub fn post_room(count: u8, nodes: [Node; 8]) -> bool
-    requires { ⌜ OrderedNodes count nodes ⌝ }
-    ensures { λ r. ⌜ r ≡ roomAll (column eventsAt count nodes) ⌝ }
+pub fn post_room(count: u8, controllers: [Controller; 8]) -> bool
+    requires { ⌜ OrderedControllers count controllers ⌝ }
+    ensures { λ r. ⌜ r ≡ roomAll (column eventsAt count controllers) ⌝ }
 {
     let n = count as usize;
     let mut i: usize = 0;
     while i < n {
-        let node = nodes[i];
-        let events = node.events;
+        let controller = controllers[i];
+        let events = controller.events;
         if events.full() {
             return false;
         }
@@ -39,99 +39,99 @@ pub fn post_room(count: u8, nodes: [Node; 8]) -> bool
 }
 
 // The mastership goes last in the node's event queue.
-pub fn hear(node: Node, m: Mastership) -> Node
-    ensures { λ r. ⌜ r ≡ hears m node ⌝ }
+pub fn hear(controller: Controller, m: Mastership) -> Controller
+    ensures { λ r. ⌜ r ≡ hears m controller ⌝ }
 {
-    let events = node.events;
-    let mut next = node;
+    let events = controller.events;
+    let mut next = controller;
     next.events = events.push(m);
     next
 }
 
 // The mastership goes last in every event queue.
-pub fn post(count: u8, nodes: [Node; 8], m: Mastership) -> [Node; 8]
-    requires { ⌜ OrderedNodes count nodes × OrderedMastership m × (roomAll (column eventsAt count nodes) ≡ true) ⌝ }
-    ensures { λ r. ⌜ r ≡ storeEvents (map (push (holdMastership m)) (column eventsAt count nodes)) count nodes ⌝ }
+pub fn post(count: u8, controllers: [Controller; 8], m: Mastership) -> [Controller; 8]
+    requires { ⌜ OrderedControllers count controllers × OrderedMastership m × (roomAll (column eventsAt count controllers) ≡ true) ⌝ }
+    ensures { λ r. ⌜ r ≡ storeEvents (map (push (holdMastership m)) (column eventsAt count controllers)) count controllers ⌝ }
 {
     let n = count as usize;
-    let mut next = nodes;
+    let mut next = controllers;
     let mut i: usize = 0;
     while i < n {
-        let node = next[i];
-        next[i] = hear(node, m);
+        let controller = next[i];
+        next[i] = hear(controller, m);
         i += 1;
     }
     next
 }
 
-fn post_code(count: u8, nodes: [Node; 8]) -> u8
-    requires { ⌜ OrderedNodes count nodes ⌝ }
-    ensures { λ r. ⌜ r ≡ cond (roomAll (column eventsAt count nodes)) stepDone queueFull ⌝ }
+fn post_code(count: u8, controllers: [Controller; 8]) -> u8
+    requires { ⌜ OrderedControllers count controllers ⌝ }
+    ensures { λ r. ⌜ r ≡ cond (roomAll (column eventsAt count controllers)) stepDone queueFull ⌝ }
 {
-    if post_room(count, nodes) {
+    if post_room(count, controllers) {
         return parts::DONE;
     }
     parts::QUEUE_FULL
 }
 
 // 1 Join: the answer.
-pub fn join_code(count: u8, number: u8, service: Mastership, nodes: [Node; 8]) -> u8
-    requires { ⌜ OrderedNodes count nodes ⌝ }
-    ensures { λ r. ⌜ r ≡ answerOf (decide (joinRule number) (holdDesk count service nodes)) ⌝ }
+pub fn join_code(count: u8, node: u8, service: Mastership, controllers: [Controller; 8]) -> u8
+    requires { ⌜ OrderedControllers count controllers ⌝ }
+    ensures { λ r. ⌜ r ≡ answerOf (decide (joinRule node) (holdDesk count service controllers)) ⌝ }
 {
     if service.master == 0 {
         if parts::TOP_TERM <= service.term.0 {
-            return parts::TERMS_SPENT;
+            return parts::TERM_LIMIT;
         }
-        return post_code(count, nodes);
+        return post_code(count, controllers);
     }
-    if service.names(number) {
+    if service.names(node) {
         return parts::NOT_ALLOWED;
     }
-    post_code(count, nodes)
+    post_code(count, controllers)
 }
 
 // The mastership after the node joined it.
-pub fn joined(service: Mastership, number: u8) -> Mastership
+pub fn joined(service: Mastership, node: u8) -> Mastership
     requires { ⌜ Joins service ⌝ }
-    ensures { λ r. ⌜ r ≡ packMastership (joined number (holdMastership service)) ⌝ }
+    ensures { λ r. ⌜ r ≡ packMastership (joined node (holdMastership service)) ⌝ }
 {
     if service.master == 0 {
         return Mastership {
             term: Term(service.term.0 + 1),
-            master: number,
-            backups: [0u8; 7],
-            count: 0,
+            master: node,
+            backups: [0u8; parts::MOST_BACKUPS as usize],
+            len: 0,
         };
     }
-    let at = service.count as usize;
+    let at = service.len as usize;
     let mut next = service;
-    next.backups[at] = number;
-    next.count = service.count + 1;
+    next.backups[at] = node;
+    next.len = service.len + 1;
     next
 }
 
 // Whether the first backup takes over when the node leaves.
-pub fn hands_over(service: Mastership, number: u8) -> bool
-    ensures { λ r. ⌜ r ≡ handsOver number (holdMastership service) ⌝ }
+pub fn hands_over(service: Mastership, node: u8) -> bool
+    ensures { λ r. ⌜ r ≡ handsOver node (holdMastership service) ⌝ }
 {
-    if service.master == number {
-        return 0 < service.count;
+    if service.master == node {
+        return 0 < service.len;
     }
     false
 }
 
 // 2 Leave: the answer.
-pub fn leave_code(count: u8, number: u8, service: Mastership, nodes: [Node; 8]) -> u8
-    requires { ⌜ OrderedNodes count nodes ⌝ }
-    ensures { λ r. ⌜ r ≡ answerOf (decide (leaveRule number) (holdDesk count service nodes)) ⌝ }
+pub fn leave_code(count: u8, node: u8, service: Mastership, controllers: [Controller; 8]) -> u8
+    requires { ⌜ OrderedControllers count controllers ⌝ }
+    ensures { λ r. ⌜ r ≡ answerOf (decide (leaveRule node) (holdDesk count service controllers)) ⌝ }
 {
-    if service.names(number) {
-        if hands_over(service, number) {
+    if service.names(node) {
+        if hands_over(service, node) {
             if parts::TOP_TERM <= service.term.0 {
-                return parts::TERMS_SPENT;
+                return parts::TERM_LIMIT;
             }
-            return post_code(count, nodes);
+            return post_code(count, controllers);
         }
         return parts::DONE;
     }
@@ -150,14 +150,14 @@ fn skip(i: usize, gone: usize) -> usize
 }
 
 // The mastership without a backup.
-fn without(m: Mastership, number: u8) -> Mastership
-    requires { ⌜ Leaves m number ⌝ }
-    ensures { λ r. ⌜ r ≡ packMastership (withoutBackup number (holdMastership m)) ⌝ }
+fn without(m: Mastership, node: u8) -> Mastership
+    requires { ⌜ Leaves m node ⌝ }
+    ensures { λ r. ⌜ r ≡ packMastership (withoutBackup node (holdMastership m)) ⌝ }
 {
-    let place = m.place_of(number);
+    let place = m.place_of(node);
     let gone = place as usize - 1;
-    let kept = m.count as usize - 1;
-    let mut backups = [0u8; 7];
+    let kept = m.len as usize - 1;
+    let mut backups = [0u8; parts::MOST_BACKUPS as usize];
     let mut i: usize = 0;
     while i < kept {
         let from = skip(i, gone);
@@ -169,7 +169,7 @@ fn without(m: Mastership, number: u8) -> Mastership
         term: term,
         master: m.master,
         backups: backups,
-        count: m.count - 1,
+        len: m.len - 1,
     }
 }
 
@@ -183,22 +183,22 @@ fn promoted(m: Mastership) -> Mastership
         term: Term(m.term.0 + 1),
         master: at[0],
         backups: [at[1], at[2], at[3], at[4], at[5], at[6], 0],
-        count: m.count - 1,
+        len: m.len - 1,
     }
 }
 
 // The mastership after the node left it.
-pub fn left(service: Mastership, number: u8) -> Mastership
-    requires { ⌜ Leaving service number ⌝ }
-    ensures { λ r. ⌜ r ≡ packMastership (left number (holdMastership service)) ⌝ }
+pub fn left(service: Mastership, node: u8) -> Mastership
+    requires { ⌜ Leaving service node ⌝ }
+    ensures { λ r. ⌜ r ≡ packMastership (left node (holdMastership service)) ⌝ }
 {
-    if service.master == number {
-        if service.count == 0 {
+    if service.master == node {
+        if service.len == 0 {
             let mut next = service;
             next.master = 0;
             return next;
         }
         return promoted(service);
     }
-    without(service, number)
+    without(service, node)
 }

@@ -6,5 +6,5 @@ pub mod Situation
 pub mod Scope
 pub mod Fresh
 pub mod Alone
-pub mod Told
+pub mod WhoIsTold
 pub mod Table

@@ -29,7 +29,7 @@ abbrev pub service : Mastership → Claim
 service m = record { A = Mastership; equality = mastership; look = λ s. s .core .desk .service; stands = m }
 
 abbrev pub last : ℕ → Claim
-last t = record { A = ℕ; equality = number; look = λ s. s .core .wire .last; stands = t }
+last t = record { A = ℕ; equality = number; look = λ s. s .core .board .last; stands = t }
 
 -- Of node n.
 module _ (n : ℕ) where
@@ -43,16 +43,16 @@ module _ (n : ℕ) where
   says b = record { A = Bool; equality = flag; look = λ s. getD (s .core .says) (n - 1) false; stands = b }
 
   abbrev pub isOpen : Bool → Claim
-  isOpen b = record { A = Bool; equality = flag; look = λ s. getD (s .core .wire .opens) (n - 1) false; stands = b }
+  isOpen b = record { A = Bool; equality = flag; look = λ s. getD (s .core .board .opens) (n - 1) false; stands = b }
 
   abbrev pub requests : List Request → Claim
-  requests q = record { A = List Request; equality = list request; look = λ s. getD (s .core .wire .requests) (n - 1) []; stands = q }
+  requests q = record { A = List Request; equality = list request; look = λ s. getD (s .core .board .requests) (n - 1) []; stands = q }
 
   abbrev pub responses : List Response → Claim
-  responses q = record { A = List Response; equality = list response; look = λ s. getD (s .core .wire .responses) (n - 1) []; stands = q }
+  responses q = record { A = List Response; equality = list response; look = λ s. getD (s .core .board .responses) (n - 1) []; stands = q }
 
   abbrev pub id : ℕ → Claim
-  id i = record { A = ℕ; equality = number; look = λ s. getD (s .core .wire .ids) (n - 1) 0; stands = i }
+  id i = record { A = ℕ; equality = number; look = λ s. getD (s .core .board .ids) (n - 1) 0; stands = i }
 
 -- ---- situations
 

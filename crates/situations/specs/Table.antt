@@ -6,10 +6,10 @@ use Rattle.situations.specs.Situation.{Situation, Every, Holds, every, s
 use Rattle.situations.specs.Scope.{scope}
 use Rattle.situations.specs.Fresh.{fromFresh}
 use Rattle.situations.specs.Alone.{alone}
-use Rattle.situations.specs.Told.{told}
+use Rattle.situations.specs.WhoIsTold.{whoIsTold}
 
 abbrev pub table : List Situation
-table = scope ++ fromFresh ++ alone ++ told
+table = scope ++ fromFresh ++ alone ++ whoIsTold
 
 pub situations : Every Holds table
 unfolding computed sameAll every stands came holds

@@ -10,7 +10,7 @@ use Rattle.parts.specs.declared.Mastership.{Mastership}
 use Rattle.parts.specs.declared.ElectionId.{ElectionId}
 use Rattle.parts.specs.declared.Term.{Term}
 use Rattle.parts.specs.Hold.{holdMastership, packMastership, holdEvents, packEvents, holdRequests, packRequests, holdResponses, packResponses}
-use Rattle.state.specs.declared.Node.{Node}
+use Rattle.state.specs.declared.Controller.{Controller}
 use Rattle.state.specs.declared.Stream.{Stream}
 use Rattle.state.specs.declared.Claims.{Claims}
 use Rattle.state.specs.declared.Core.{Core}
@@ -20,13 +20,13 @@ use Rattle.state.specs.declared.State.{State}
 
 -- ---- reading: the columns of the first `count` rows
 
-abbrev pub eventsAt : Node → List S.Mastership
+abbrev pub eventsAt : Controller → List S.Mastership
 eventsAt r = holdEvents (r .events)
 
-abbrev pub learnedAt : Node → S.Mastership
+abbrev pub learnedAt : Controller → S.Mastership
 learnedAt r = holdMastership (r .learned)
 
-abbrev pub saysAt : Node → Bool
+abbrev pub saysAt : Controller → Bool
 saysAt r = r .says
 
 abbrev pub openAt : Stream → Bool
@@ -47,11 +47,11 @@ idAt i = i .0
 abbrev pub termAt : Term → ℕ
 termAt t = t .0
 
-unfoldable pub holdDesk : ℕ → Mastership → List Node → S.Desk
-holdDesk count service nodes = record { service = holdMastership service; events = column eventsAt count nodes }
+unfoldable pub holdDesk : ℕ → Mastership → List Controller → S.Desk
+holdDesk count service controllers = record { service = holdMastership service; events = column eventsAt count controllers }
 
-unfoldable pub holdWire : ℕ → List Stream → Claims → S.Wire
-holdWire count streams claims = record {
+unfoldable pub holdBoard : ℕ → List Stream → Claims → S.Board
+holdBoard count streams claims = record {
   opens = column openAt count streams;
   sent = column sentAt count streams;
   requests = column requestsAt count streams;
@@ -63,10 +63,10 @@ holdWire count streams claims = record {
 
 unfoldable pub holdCore : ℕ → Core → S.Core
 holdCore count c = record {
-  desk = holdDesk count (c .service) (c .nodes);
-  learned = column learnedAt count (c .nodes);
-  says = column saysAt count (c .nodes);
-  wire = holdWire count (c .streams) (c .claims);
+  desk = holdDesk count (c .service) (c .controllers);
+  learned = column learnedAt count (c .controllers);
+  says = column saysAt count (c .controllers);
+  board = holdBoard count (c .streams) (c .claims);
 }
 
 abbrev pub holdWrite : Write → S.Write
@@ -85,8 +85,8 @@ hold s = record {
 
 -- ---- writing: eight rows, blank where a column has ended
 
-abbrev pub packNode : List S.Mastership → S.Mastership → Bool → Node
-packNode events learned says = record { events = packEvents events; learned = packMastership learned; says = says }
+abbrev pub packController : List S.Mastership → S.Mastership → Bool → Controller
+packController events learned says = record { events = packEvents events; learned = packMastership learned; says = says }
 
 abbrev pub packStream : Bool → ℕ → List S.Request → List S.Response → Stream
 packStream isOpen sent requests responses = record {
@@ -96,16 +96,16 @@ packStream isOpen sent requests responses = record {
   responses = packResponses responses;
 }
 
-abbrev pub nodeRow : List (List S.Mastership) → List S.Mastership → List Bool → ℕ → Node
-nodeRow events learned says i = packNode (getD events i []) (getD learned i S.blank) (getD says i false)
+abbrev pub controllerRow : List (List S.Mastership) → List S.Mastership → List Bool → ℕ → Controller
+controllerRow events learned says i = packController (getD events i []) (getD learned i S.blank) (getD says i false)
 
-abbrev pub streamRow : S.Wire → ℕ → Stream
+abbrev pub streamRow : S.Board → ℕ → Stream
 streamRow w i = packStream (getD (w .opens) i false) (getD (w .sent) i 0) (getD (w .requests) i []) (getD (w .responses) i [])
 
-unfoldable pub packNodes : List (List S.Mastership) → List S.Mastership → List Bool → List Node
-packNodes events learned says = table mostNodes (nodeRow events learned says)
+unfoldable pub packControllers : List (List S.Mastership) → List S.Mastership → List Bool → List Controller
+packControllers events learned says = table mostNodes (controllerRow events learned says)
 
-unfoldable pub packStreams : S.Wire → List Stream
+unfoldable pub packStreams : S.Board → List Stream
 packStreams w = table mostNodes (streamRow w)
 
 abbrev pub idRow : List ℕ → ℕ → ElectionId
@@ -114,7 +114,7 @@ idRow ids i = record { 0 = getD ids i 0 }
 abbrev pub termRow : List ℕ → ℕ → Term
 termRow terms i = record { 0 = getD terms i 0 }
 
-unfoldable pub packClaims : S.Wire → Claims
+unfoldable pub packClaims : S.Board → Claims
 packClaims w = record {
   ids = table mostNodes (idRow (w .ids));
   terms = table mostNodes (termRow (w .terms));
@@ -124,9 +124,9 @@ packClaims w = record {
 unfoldable pub packCore : S.Core → Core
 packCore c = record {
   service = packMastership (c .desk .service);
-  nodes = packNodes (c .desk .events) (c .learned) (c .says);
-  streams = packStreams (c .wire);
-  claims = packClaims (c .wire);
+  controllers = packControllers (c .desk .events) (c .learned) (c .says);
+  streams = packStreams (c .board);
+  claims = packClaims (c .board);
 }
 
 abbrev pub packWrite : S.Write → Write

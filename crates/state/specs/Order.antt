@@ -8,12 +8,12 @@ use Rattle.rules.specs.Limits.{mostNodes}
 use Rattle.seqs.specs.Arrays.{column}
 use Rattle.parts.specs.Hold.{pastMastership}
 use Rattle.parts.specs.Ordered.{OrderedMastership, OrderedEvents, OrderedRequests, OrderedResponses}
-use Rattle.state.specs.Hold.{eventsAt, learnedAt, saysAt, holdWire, packNodes, packStreams, packClaims}
-use Rattle.state.specs.declared.Node.{Node}
+use Rattle.state.specs.Hold.{eventsAt, learnedAt, saysAt, holdBoard, packControllers, packStreams, packClaims}
+use Rattle.state.specs.declared.Controller.{Controller}
 use Rattle.state.specs.declared.Stream.{Stream}
 use Rattle.state.specs.declared.Claims.{Claims}
 
-pub record OrderedNode (r : Node) : Type 0 where
+pub record OrderedController (r : Controller) : Type 0 where
   pub events : OrderedEvents (r .events)
   pub learned : OrderedMastership (r .learned)
 
@@ -22,20 +22,20 @@ pub record OrderedStream (r : Stream) : Type 0 where
   pub responses : OrderedResponses (r .responses)
 
 -- what the logic has for a read past the end of an array of rows
-abbrev pub pastNode : Node
-pastNode = record { events = record { items = []; len = 0 }; learned = pastMastership; says = false }
+abbrev pub pastController : Controller
+pastController = record { events = record { items = []; len = 0 }; learned = pastMastership; says = false }
 
 abbrev pub pastStream : Stream
 pastStream = record { opened = false; sent = record { 0 = 0 }; requests = record { items = []; len = 0 }; responses = record { items = []; len = 0 } }
 
 -- The rows in use are in order, and the array is what they hold with blank rows behind it.
-pub record OrderedNodes (count : ℕ) (nodes : List Node) : Type 0 where
+pub record OrderedControllers (count : ℕ) (controllers : List Controller) : Type 0 where
   pub few : count ≤ mostNodes
-  pub rows : (i : ℕ) → i < count → OrderedNode (getD nodes i pastNode)
-  pub same : packNodes (column eventsAt count nodes) (column learnedAt count nodes) (column saysAt count nodes) ≡ nodes
+  pub rows : (i : ℕ) → i < count → OrderedController (getD controllers i pastController)
+  pub same : packControllers (column eventsAt count controllers) (column learnedAt count controllers) (column saysAt count controllers) ≡ controllers
 
-pub record OrderedWire (count : ℕ) (streams : List Stream) (claims : Claims) : Type 0 where
+pub record OrderedBoard (count : ℕ) (streams : List Stream) (claims : Claims) : Type 0 where
   pub few : count ≤ mostNodes
   pub rows : (i : ℕ) → i < count → OrderedStream (getD streams i pastStream)
-  pub streams-same : packStreams (holdWire count streams claims) ≡ streams
-  pub claims-same : packClaims (holdWire count streams claims) ≡ claims
+  pub streams-same : packStreams (holdBoard count streams claims) ≡ streams
+  pub claims-same : packClaims (holdBoard count streams claims) ≡ claims

@@ -7,8 +7,8 @@ use Rattle.rules.specs.Part.{Out, refuse, done}
 use Rattle.rules.specs.Parts.{Inbox, Sender, Receiver, Linked, Told, Served, Power}
 use Rattle.seqs.specs.Arrays.{column}
 use Rattle.parts.specs.Hold.{holdMastership, holdEvents, holdRequests, holdResponses}
-use Rattle.state.specs.Hold.{holdWire, idAt, termAt}
-use Rattle.state.specs.declared.Node.{Node}
+use Rattle.state.specs.Hold.{holdBoard, idAt, termAt}
+use Rattle.state.specs.declared.Controller.{Controller}
 use Rattle.state.specs.declared.Stream.{Stream}
 use Rattle.state.specs.declared.Claims.{Claims}
 
@@ -17,10 +17,10 @@ abbrev pub answerOf : {W : Type 0} → Out ℕ W → ℕ
 answerOf (refuse a) = a
 answerOf (done a w) = a
 
-abbrev pub inboxOf : Node → Inbox
+abbrev pub inboxOf : Controller → Inbox
 inboxOf r = record { events = holdEvents (r .events); learned = holdMastership (r .learned) }
 
-abbrev pub senderOf : ℕ → Node → Stream → Sender
+abbrev pub senderOf : ℕ → Controller → Stream → Sender
 senderOf count r s = record {
   count = count;
   learned = holdMastership (r .learned);
@@ -30,7 +30,7 @@ senderOf count r s = record {
   requests = holdRequests (s .requests);
 }
 
-abbrev pub receiverOf : ℕ → Node → Stream → Receiver
+abbrev pub receiverOf : ℕ → Controller → Stream → Receiver
 receiverOf count r s = record {
   count = count;
   learned = holdMastership (r .learned);
@@ -45,7 +45,7 @@ linkedOf running s = record { running = running; isOpen = s .opened }
 
 -- Of all streams, the columns; of node n, its own row.
 abbrev pub toldOf : ℕ → ℕ → Bool → List Stream → Claims → Told
-toldOf count n running streams claims = let w = holdWire count streams claims in record {
+toldOf count n running streams claims = let w = holdBoard count streams claims in record {
   running = running;
   opens = w .opens;
   sent = getD (w .sent) (n - 1) 0;
@@ -68,4 +68,4 @@ servedOf count n running s claims writes = record {
 }
 
 abbrev pub powerOf : ℕ → Bool → List Stream → Claims → Power
-powerOf count running streams claims = record { running = running; wire = holdWire count streams claims }
+powerOf count running streams claims = record { running = running; board = holdBoard count streams claims }

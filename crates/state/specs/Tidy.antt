@@ -4,7 +4,7 @@ use mathlib.Core.List.{List}
 use Prim.Native.Nat.{ℕ}
 use lib.ListN.{take, drop}
 use lib.Dec.{leb, eqb}
-use Rattle.rules.specs.Limits.{queueLength, historyLength}
+use Rattle.rules.specs.Limits.{mostBackups, queueLength, historyLength}
 use Rattle.rules.specs.Range.{all, inRange}
 use Rattle.parts.specs.declared.Mastership.{Mastership}
 use Rattle.parts.specs.declared.Message.{Message}
@@ -16,7 +16,7 @@ use Rattle.parts.specs.declared.Response.{Response}
 use Rattle.parts.specs.declared.ElectionId.{ElectionId}
 use Rattle.parts.specs.declared.Term.{Term}
 use Rattle.state.specs.Hold.{hold}
-use Rattle.state.specs.declared.Node.{Node}
+use Rattle.state.specs.declared.Controller.{Controller}
 use Rattle.state.specs.declared.Stream.{Stream}
 use Rattle.state.specs.declared.Core.{Core}
 use Rattle.state.specs.declared.Write.{Write}
@@ -40,7 +40,7 @@ noStatus T.AlreadyExists = false
 noStatus T.PermissionDenied = false
 
 unfoldable pub blankMastership : Mastership → Bool
-blankMastership m = isZero (m .term .0) && isZero (m .master) && all isZero (m .backups) && isZero (m .count)
+blankMastership m = isZero (m .term .0) && isZero (m .master) && all isZero (m .backups) && isZero (m .len)
 
 unfoldable pub blankRequest : Request → Bool
 blankRequest r = noMessage (r .message) && isZero (r .id .0) && isZero (r .term .0)
@@ -51,7 +51,7 @@ blankResponse r = noMessage (r .message) && noStatus (r .status) && isZero (r .i
 -- ---- what is in use is tidy, and the places behind it are blank
 
 unfoldable pub tidyMastership : Mastership → Bool
-tidyMastership m = leb (m .count) 7 && all isZero (drop (m .count) (m .backups))
+tidyMastership m = leb (m .len) mostBackups && all isZero (drop (m .len) (m .backups))
 
 unfoldable pub tidyRequest : Request → Bool
 tidyRequest r = not (noMessage (r .message))
@@ -62,8 +62,8 @@ tidyResponse r = not (noMessage (r .message)) && not (noStatus (r .status))
 unfoldable pub tidyPlaces : {B : Type 0} → ℕ → (B → Bool) → (B → Bool) → List B → ℕ → Bool
 tidyPlaces size tidy blank items len = leb len size && all tidy (take len items) && all blank (drop len items)
 
-unfoldable pub tidyNode : Node → Bool
-tidyNode r = tidyPlaces queueLength tidyMastership blankMastership (r .events .items) (r .events .len) && tidyMastership (r .learned)
+unfoldable pub tidyController : Controller → Bool
+tidyController r = tidyPlaces queueLength tidyMastership blankMastership (r .events .items) (r .events .len) && tidyMastership (r .learned)
 
 unfoldable pub tidyStream : Stream → Bool
 tidyStream r =
@@ -72,8 +72,8 @@ tidyStream r =
 
 -- ---- rows above N
 
-unfoldable pub blankNode : Node → Bool
-blankNode r = all blankMastership (r .events .items) && isZero (r .events .len) && blankMastership (r .learned) && not (r .says)
+unfoldable pub blankController : Controller → Bool
+blankController r = all blankMastership (r .events .items) && isZero (r .events .len) && blankMastership (r .learned) && not (r .says)
 
 unfoldable pub blankStream : Stream → Bool
 blankStream r =
@@ -90,7 +90,7 @@ blankTerm t = isZero (t .0)
 unfoldable pub tidyCore : ℕ → Core → Bool
 tidyCore count c =
     tidyMastership (c .service)
-    && all tidyNode (take count (c .nodes)) && all blankNode (drop count (c .nodes))
+    && all tidyController (take count (c .controllers)) && all blankController (drop count (c .controllers))
     && all tidyStream (take count (c .streams)) && all blankStream (drop count (c .streams))
     && all blankId (drop count (c .claims .ids)) && all blankTerm (drop count (c .claims .terms))
 

@@ -1,8 +1,11 @@
 // The state as the code holds it: rows in arrays of eight, of which the first `count` are in use.
 ghost use mathlib.Core.Path.{_≡_};
-ghost use Prim.Native.Nat.{ℕ};
+ghost use Prim.Native.Nat.{ℕ, _≤_};
+ghost use Rattle.rules.specs.Limits.{mostNodes};
+ghost use Rattle.rules.specs.Queues.{before};
 ghost use Rattle.rules.specs.Step.{fresh};
-ghost use Rattle.state.specs.Hold.{packCore};
+ghost use Rattle.seqs.specs.Arrays.{column};
+ghost use Rattle.state.specs.Hold.{idAt, packCore};
 use parts::ElectionId;
 use parts::EventQueue;
 use parts::Mastership;
@@ -11,7 +14,7 @@ use parts::ResponseQueue;
 use parts::Term;
 
 // A controller node. `says` is the flag "device says master".
-pub struct Node {
+pub struct Controller {
     pub events: EventQueue,
     pub learned: Mastership,
     pub says: bool,
@@ -35,7 +38,7 @@ pub struct Claims {
 // What one role owns.
 pub struct Core {
     pub service: Mastership,
-    pub nodes: [Node; 8],
+    pub controllers: [Controller; 8],
     pub streams: [Stream; 8],
     pub claims: Claims,
 }
@@ -58,8 +61,8 @@ pub struct State {
     pub history: History,
 }
 
-// The streams and what the switch holds of their nodes: what Close, Handle update and Shutdown write.
-pub struct Wire {
+// The switch's board, the streams and what it holds of their nodes: what Close, Handle update and Shutdown write.
+pub struct Board {
     pub streams: [Stream; 8],
     pub claims: Claims,
 }
@@ -76,7 +79,7 @@ pub struct Table {
     pub count: u8,
     pub running: bool,
     pub service: Mastership,
-    pub nodes: [Node; 8],
+    pub controllers: [Controller; 8],
     pub streams: [Stream; 8],
     pub claims: Claims,
 }
@@ -89,12 +92,29 @@ pub struct Moved {
     pub term: Term,
 }
 
+// How many nodes stand before the first that holds the id; all of them where none does.
+pub fn id_place(count: u8, id: ElectionId, ids: [ElectionId; 8]) -> u8
+    requires { ⌜ count ≤ mostNodes ⌝ }
+    ensures { λ r. ⌜ r ≡ before (id .0) (column idAt count ids) ⌝ }
+{
+    let mut i: u8 = 0;
+    while i < count {
+        let at = i as usize;
+        let held = ids[at];
+        if held.0 == id.0 {
+            return i;
+        }
+        i += 1;
+    }
+    count
+}
+
 // What a role owns before any step: nothing in any row, however many nodes there are.
 pub fn blank_core() -> Core
     ensures { λ r. ⌜ ((count : ℕ) → r ≡ packCore (fresh count .core)) ⌝ }
 {
     let blank = Mastership::blank();
-    let node = Node {
+    let controller = Controller {
         events: EventQueue::empty(),
         learned: blank,
         says: false,
@@ -112,7 +132,7 @@ pub fn blank_core() -> Core
     };
     Core {
         service: blank,
-        nodes: [node; 8],
+        controllers: [controller; 8],
         streams: [stream; 8],
         claims: claims,
     }

@@ -40,5 +40,5 @@ freshened nodes =
 unfoldable pub reported : State → Report
 reported s =
     cond (stateFits s)
-    (let r = Open.openReport (hold s) in record { code = r .code; word = r .word; count = r .count })
-    (record { code = outOfRange; word = 0; count = 0 })
+    (let r = Open.openReport (hold s) in record { code = r .code; word = r .word; number = r .number })
+    (record { code = outOfRange; word = 0; number = 0 })

@@ -11,11 +11,11 @@ use Rattle.rules.specs.State as S
 use Rattle.rules.specs.Range.{inRange}
 use Rattle.rules.specs.Part.{Result}
 use Rattle.rules.specs.Step.{Event, kindOf, ofKind, ofState, step}
-use Rattle.rules.specs.Open.{openReport, wordOf, countOf}
+use Rattle.rules.specs.Open.{openReport, wordOf, openNumber}
 use Rattle.laws.specs.RangeTest.{range-sound, range-complete}
 use Rattle.laws.specs.Steps.{step-keeps}
 use Rattle.seqs.specs.Arrays.{column}
-use Rattle.state.specs.Hold.{openAt, packHistory, packCore, holdHistory, holdCore, holdWire, hold, represent}
+use Rattle.state.specs.Hold.{openAt, packHistory, packCore, holdHistory, holdCore, holdBoard, hold, represent}
 use Rattle.state.specs.Tidy.{tidyCore, tidyHistory, stateFits}
 use Rattle.state.specs.declared.State.{State}
 use Rattle.state.specs.declared.History.{History}
@@ -46,8 +46,8 @@ module _ (s : State) (fits : stateFits s ≡ true) where
   unfolding hold
   few-nodes = range-sound (hold s) held-fits .count .upper
 
-  pub reports : (r : Report) → r ≡ record { code = 0; word = wordOf (column openAt (s .count) (s .core .streams)); count = countOf (column openAt (s .count) (s .core .streams)) } → r ≡ reported s
-  unfolding reported openReport hold holdCore holdWire
+  pub reports : (r : Report) → r ≡ record { code = 0; word = wordOf (column openAt (s .count) (s .core .streams)); number = openNumber (column openAt (s .count) (s .core .streams)) } → r ≡ reported s
+  unfolding reported openReport hold holdCore holdBoard
   reports r e = simp (fits, held-range) e
 
   module _ (same : represent (hold s) ≡ s) where

@@ -18,11 +18,11 @@ pub struct Stepped {
     pub state: State,
 }
 
-// The open streams: bit n - 1 of the word is set for an open stream of node n, and count is how many are.
+// The open streams: bit n - 1 of the word is set for an open stream of node n, and the number is how many are.
 pub struct Report {
     pub code: u8,
     pub word: u32,
-    pub count: u32,
+    pub number: u32,
 }
 
 fn append(history: History, write: Write) -> History
@@ -144,16 +144,16 @@ pub fn open_streams(state: State) -> Report
         let core = state.core;
         let streams = core.streams;
         let word = streams::open_word(state.count, streams);
-        let count = streams::open_count(state.count, streams);
+        let number = streams::open_number(state.count, streams);
         return Report {
             code: parts::DONE,
             word: word,
-            count: count,
+            number: number,
         };
     }
     Report {
         code: parts::OUT_OF_RANGE,
         word: 0,
-        count: 0,
+        number: 0,
     }
 }

@@ -3,7 +3,7 @@ use mathlib.Core.Path.{_≡_, refl, sym, _∙_}
 use mathlib.Core.Bool.{Bool, true, false, cond}
 use Prim.Native.Nat.{ℕ}
 use native.Mathlib.Omega.{arith}
-use Rattle.rules.specs.Codes.{stepDone, notAllowed, termsSpent, historyFull, queueFull}
+use Rattle.rules.specs.Codes.{stepDone, notAllowed, termLimit, historyFull, queueFull}
 use Rattle.rules.specs.Part.{Rule, decide, need, done}
 use Rattle.state.specs.Reads.{answerOf}
 
@@ -16,10 +16,10 @@ pub record Clear {R W : Type 0} (r : Rule R W) (v : R) : Type 0 where
 
 -- the answer by the four tests
 abbrev pub byTests : Bool → Bool → Bool → Bool → ℕ
-byTests a t h q = cond a (cond t (cond h (cond q stepDone queueFull) historyFull) termsSpent) notAllowed
+byTests a t h q = cond a (cond t (cond h (cond q stepDone queueFull) historyFull) termLimit) notAllowed
 
 module _ {R W : Type 0} (r : Rule R W) (v : R) where
-  nested : (a t h q : Bool) → answerOf (need a notAllowed (need t termsSpent (need h historyFull (need q queueFull (done stepDone (r .effect v)))))) ≡ byTests a t h q
+  nested : (a t h q : Bool) → answerOf (need a notAllowed (need t termLimit (need h historyFull (need q queueFull (done stepDone (r .effect v)))))) ≡ byTests a t h q
   nested false t h q = refl
   nested true false h q = refl
   nested true true false q = refl

@@ -1,11 +1,9 @@
 -- What the rules ask of a column, as a loop takes it apart row by row. Assumes nothing.
-use mathlib.Core.Path.{_≡_, refl, sym}
-use mathlib.Core.Logic.{_≢_}
+use mathlib.Core.Path.{_≡_, refl}
 use mathlib.Core.Bool.{Bool, true, not, _&&_, _||_}
 use mathlib.Core.List.{List, [], _∷_}
-use Prim.Native.Nat.{ℕ, suc, max}
-use borrow.Author.Tests.{eq-eqb, ne-eqb}
-use Rattle.rules.specs.Queues.{before, room}
+use Prim.Native.Nat.{ℕ, max}
+use Rattle.rules.specs.Queues.{room}
 use Rattle.rules.specs.Election.{largest, roomOpen}
 use Rattle.rules.specs.State as S
 
@@ -18,20 +16,6 @@ largest-cons x l = refl
 pub largest-none : largest [] ≡ 0
 unfolding largest
 largest-none = refl
-
--- ---- a search
-
-pub before-cons : (n x : ℕ) (l : List ℕ) → x ≢ n → before n (x ∷ l) ≡ suc (before n l)
-unfolding before
-before-cons n x l z = simp (ne-eqb n x (λ e. z (sym e)))
-
-pub before-first : (n x : ℕ) (l : List ℕ) → x ≡ n → before n (x ∷ l) ≡ 0
-unfolding before
-before-first n x l e = simp (eq-eqb n x (sym e))
-
-pub before-none : (n : ℕ) → before n [] ≡ 0
-unfolding before
-before-none n = refl
 
 -- ---- room
 

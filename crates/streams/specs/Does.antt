@@ -15,8 +15,8 @@ use Rattle.state.specs.Order.{pastStream}
 use Rattle.state.specs.declared.Stream.{Stream}
 
 -- The response goes last.
-abbrev pub told : Response → Stream → Stream
-told r s = record { opened = s .opened; sent = s .sent; requests = s .requests; responses = pushResponse (s .responses) r }
+abbrev pub responded : Response → Stream → Stream
+responded r s = record { opened = s .opened; sent = s .sent; requests = s .requests; responses = pushResponse (s .responses) r }
 
 -- The head request is taken off.
 abbrev pub withoutHead : Stream → Stream
@@ -25,7 +25,7 @@ withoutHead s = record { opened = s .opened; sent = s .sent; requests = popReque
 -- The row at place i after all open streams are told.
 abbrev pub tellRow : List Bool → List ℕ → List Stream → ℕ → Stream
 tellRow opens ids streams i =
-    cond (getD opens i false) (told (packResponse (news ids (i + 1))) (getD streams i pastStream)) (getD streams i pastStream)
+    cond (getD opens i false) (responded (packResponse (news ids (i + 1))) (getD streams i pastStream)) (getD streams i pastStream)
 
 -- The switch runs, the stream is open, and a request waits on it.
 abbrev pub able : Bool → Stream → Bool

@@ -3,16 +3,16 @@ ghost use mathlib.Core.Path.{_≡_};
 ghost use mathlib.Core.List.{List};
 ghost use Prim.Native.Nat.{ℕ, _≤_};
 ghost use Rattle.rules.specs.Limits.{mostNodes};
-ghost use Rattle.rules.specs.Queues.{before, first};
+ghost use Rattle.rules.specs.Queues.{first};
 ghost use Rattle.rules.specs.Election.{largest, masterOf, taken, statusFor, news, roomOpen};
-ghost use Rattle.rules.specs.Open.{wordOf, countOf};
+ghost use Rattle.rules.specs.Open.{wordOf, openNumber};
 ghost use Rattle.rules.specs.Rules.{changes, noRequest};
 ghost use Rattle.seqs.specs.Arrays.{column, table};
 ghost use Rattle.parts.specs.Hold.{packStatus, packRequest, packResponse, holdRequests};
 ghost use Rattle.state.specs.Hold.{idAt, openAt, responsesAt};
 ghost use Rattle.state.specs.Order.{OrderedStream};
 ghost use Rattle.streams.specs.Asks.{IsNode, OrderedRows, HasHead};
-ghost use Rattle.streams.specs.Does.{told, withoutHead, tellRow, waiting};
+ghost use Rattle.streams.specs.Does.{responded, withoutHead, tellRow, waiting};
 use parts::ElectionId;
 use parts::Message;
 use parts::Request;
@@ -38,23 +38,6 @@ fn largest_id(count: u8, ids: [ElectionId; 8]) -> ElectionId
     ElectionId(top)
 }
 
-// How many nodes stand before the first that holds the id; all of them where none does.
-fn before_id(count: u8, id: ElectionId, ids: [ElectionId; 8]) -> u8
-    requires { ⌜ count ≤ mostNodes ⌝ }
-    ensures { λ r. ⌜ r ≡ before (id .0) (column idAt count ids) ⌝ }
-{
-    let mut i: u8 = 0;
-    while i < count {
-        let at = i as usize;
-        let other = ids[at];
-        if other.0 == id.0 {
-            return i;
-        }
-        i += 1;
-    }
-    count
-}
-
 // The switch's master: the node with the largest id above 0, or 0 for none.
 pub fn master_of(count: u8, ids: [ElectionId; 8]) -> u8
     requires { ⌜ count ≤ mostNodes ⌝ }
@@ -64,7 +47,7 @@ pub fn master_of(count: u8, ids: [ElectionId; 8]) -> u8
     if top.0 == 0 {
         return 0;
     }
-    before_id(count, top, ids) + 1
+    state::id_place(count, top, ids) + 1
 }
 
 // Whether the switch's master is another one after the ids have changed.
@@ -85,7 +68,7 @@ pub fn is_taken(count: u8, node: u8, id: ElectionId, ids: [ElectionId; 8]) -> bo
     let at = (node - 1) as usize;
     let mut others = ids;
     others[at] = ElectionId(0);
-    before_id(count, id, others) < count
+    state::id_place(count, id, others) < count
 }
 
 // The open streams as a word: bit n - 1 is set for an open stream of node n.
@@ -107,9 +90,9 @@ pub fn open_word(count: u8, streams: [Stream; 8]) -> u32
 }
 
 // How many streams are open.
-pub fn open_count(count: u8, streams: [Stream; 8]) -> u32
+pub fn open_number(count: u8, streams: [Stream; 8]) -> u32
     requires { ⌜ count ≤ mostNodes ⌝ }
-    ensures { λ r. ⌜ r ≡ countOf (column openAt count streams) ⌝ }
+    ensures { λ r. ⌜ r ≡ openNumber (column openAt count streams) ⌝ }
 {
     u32::count_ones(open_word(count, streams))
 }
@@ -137,8 +120,8 @@ fn news_for(node: u8, master: u8, top: ElectionId) -> Response
 }
 
 // The response goes last.
-pub fn tell(stream: Stream, response: Response) -> Stream
-    ensures { λ r. ⌜ r ≡ told response stream ⌝ }
+pub fn respond(stream: Stream, response: Response) -> Stream
+    ensures { λ r. ⌜ r ≡ responded response stream ⌝ }
 {
     let responses = stream.responses;
     let mut next = stream;
@@ -149,10 +132,10 @@ pub fn tell(stream: Stream, response: Response) -> Stream
 // The node alone is told.
 pub fn tell_one(count: u8, node: u8, ids: [ElectionId; 8], stream: Stream) -> Stream
     requires { ⌜ count ≤ mostNodes ⌝ }
-    ensures { λ r. ⌜ r ≡ told (packResponse (news (column idAt count ids) node)) stream ⌝ }
+    ensures { λ r. ⌜ r ≡ responded (packResponse (news (column idAt count ids) node)) stream ⌝ }
 {
     let response = news_for(node, master_of(count, ids), largest_id(count, ids));
-    tell(stream, response)
+    respond(stream, response)
 }
 
 // Whether every open stream has room to be told.
@@ -187,7 +170,7 @@ pub fn tell_all(count: u8, ids: [ElectionId; 8], streams: [Stream; 8]) -> [Strea
         let i = u32::trailing_zeros(left) as usize;
         let stream = next[i];
         let response = news_for((i + 1) as u8, master, top);
-        next[i] = tell(stream, response);
+        next[i] = respond(stream, response);
         left = left & (left - 1);
     }
     next

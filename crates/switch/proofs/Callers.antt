@@ -13,10 +13,10 @@ use Rattle.state.specs.declared.Stream.{Stream}
 use Rattle.state.specs.declared.Claims.{Claims}
 use Rattle.streams.proofs.Answers.{clear}
 use Rattle.streams.proofs.Waiting.{three}
-use Rattle.switch.specs.Asks.{AtWire, Tells}
+use Rattle.switch.specs.Asks.{AtBoard, Tells}
 
 module _ (count n : ℕ) (running : Bool) (streams : List Stream) (claims : Claims) where
-  pub close-tells : AtWire count n streams claims → answerOf (decide (closeRule n) (toldOf count n running streams claims)) ≡ stepDone → Tells closeRule count n streams claims
+  pub close-tells : AtBoard count n streams claims → answerOf (decide (closeRule n) (toldOf count n running streams claims)) ≡ stepDone → Tells closeRule count n streams claims
   unfolding decide closeRule closeRoom closed idsLeft opensLeft responsesLeft
   close-tells h e = record { at = h; goes = e }
 
@@ -24,7 +24,7 @@ module _ (count n : ℕ) (running : Bool) (streams : List Stream) (claims : Clai
   unfolding closeRule closed idsLeft opensLeft responsesLeft
   close-effect = refl
 
-  pub update-tells : AtWire count n streams claims → answerOf (decide (handleUpdateRule n) (toldOf count n running streams claims)) ≡ stepDone → Tells handleUpdateRule count n streams claims
+  pub update-tells : AtBoard count n streams claims → answerOf (decide (handleUpdateRule n) (toldOf count n running streams claims)) ≡ stepDone → Tells handleUpdateRule count n streams claims
   unfolding handleUpdateRule
   update-tells h e =
       let v = toldOf count n running streams claims in

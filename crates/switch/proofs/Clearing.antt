@@ -1,4 +1,4 @@
--- Closing one stream after the other clears the wire. Assumes nothing.
+-- Closing one stream after the other clears the board. Assumes nothing.
 use mathlib.Core.Path.{_≡_, refl, sym, ap, _∙_}
 use mathlib.Core.Bool.{false}
 use mathlib.Core.List.{List, [], _∷_, map}
@@ -8,11 +8,11 @@ use native.Mathlib.Omega.{arith}
 use lib.ListN.{length, set}
 use Rattle.rules.specs.State as S
 use Rattle.rules.specs.Rules.{cleared}
-use Rattle.state.specs.Stores.{packWire}
-use Rattle.state.specs.declared.Wire.{Wire}
+use Rattle.state.specs.Stores.{packBoard}
+use Rattle.state.specs.declared.Board.{Board}
 use Rattle.switch.specs.Does.{clearedAt}
 use Rattle.switch.proofs.Storing.{Sized}
-use Rattle.switch.proofs.Closing.{wire-without}
+use Rattle.switch.proofs.Closing.{board-without}
 
 module _ {A : Type 0} (x : A) where
   -- x at the first k places
@@ -36,8 +36,8 @@ module _ {A : Type 0} (x : A) where
   filled-all (suc k) [] e = refl
   filled-all (suc k) (y ∷ l) e = ap (λ (t : List A). x ∷ t) (filled-all k l (let z : suc (length l) ≡ suc k = e in omega arith))
 
--- The wire with the streams of the first k nodes closed.
-abbrev pub clearedTo : ℕ → S.Wire → S.Wire
+-- The board with the streams of the first k nodes closed.
+abbrev pub clearedTo : ℕ → S.Board → S.Board
 clearedTo k w = record {
   opens = filled false k (w .opens);
   sent = filled 0 k (w .sent);
@@ -49,10 +49,10 @@ clearedTo k w = record {
 }
 
 -- one stream more
-pub cleared-more : (k : ℕ) (w : S.Wire) (next : Wire) → next ≡ packWire (clearedTo k w) → clearedAt (k + 1) (next .streams) (next .claims) ≡ packWire (clearedTo (k + 1) w)
+pub cleared-more : (k : ℕ) (w : S.Board) (next : Board) → next ≡ packBoard (clearedTo k w) → clearedAt (k + 1) (next .streams) (next .claims) ≡ packBoard (clearedTo (k + 1) w)
 cleared-more k w next e =
-    ap (λ (x : Wire). clearedAt (k + 1) (x .streams) (x .claims)) e ∙ wire-without (k + 1) (clearedTo k w)
-    ∙ ap packWire (λ i. record {
+    ap (λ (x : Board). clearedAt (k + 1) (x .streams) (x .claims)) e ∙ board-without (k + 1) (clearedTo k w)
+    ∙ ap packBoard (λ i. record {
       opens = filled-more false k (w .opens) i;
       sent = filled-more 0 k (w .sent) i;
       requests = filled-more [] k (w .requests) i;
@@ -63,7 +63,7 @@ cleared-more k w next e =
     })
 
 -- all of them
-pub cleared-all : (count : ℕ) (w : S.Wire) → Sized count w → clearedTo count w ≡ cleared w
+pub cleared-all : (count : ℕ) (w : S.Board) → Sized count w → clearedTo count w ≡ cleared w
 unfolding cleared
 cleared-all count w s = λ i. record {
   opens = filled-all false count (w .opens) (s .opens) i;

@@ -18,27 +18,27 @@ use Rattle.seqs.specs.Arrays.{column, table}
 use Rattle.seqs.specs.Columns.{column-at, column-set}
 use Rattle.parts.specs.Ordered.{ordered-requests, ordered-responses}
 use Rattle.parts.specs.declared.ElectionId.{ElectionId}
-use Rattle.state.specs.Hold.{holdWire, packStreams, packClaims, openAt, responsesAt, idAt}
+use Rattle.state.specs.Hold.{holdBoard, packStreams, packClaims, openAt, responsesAt, idAt}
 use Rattle.state.specs.Order.{OrderedStream, pastStream}
 use Rattle.state.specs.Reads.{answerOf, toldOf}
-use Rattle.state.specs.Stores.{packWire, storeTelling}
+use Rattle.state.specs.Stores.{packBoard, storeTelling}
 use Rattle.state.specs.declared.Stream.{Stream}
 use Rattle.state.specs.declared.Claims.{Claims}
-use Rattle.state.specs.declared.Wire.{Wire}
+use Rattle.state.specs.declared.Board.{Board}
 use Rattle.streams.specs.Asks.{OrderedRows}
 use Rattle.streams.specs.Does.{tellRow}
 use Rattle.streams.proofs.Answers.{answer-by, byTests, clear}
-use Rattle.switch.specs.Asks.{AtWire}
+use Rattle.switch.specs.Asks.{AtBoard}
 use Rattle.switch.specs.Does.{closedStream, clearedAt, withClaim}
 use Rattle.switch.proofs.Storing.{put, shut, lands-shut, blank-back, store-row, store-claim, sized, rows-eight}
 use Rattle.switch.proofs.Telling.{all-told}
 
--- The wire with node n's stream closed and nobody told.
-abbrev pub without : ℕ → S.Wire → S.Wire
+-- The board with node n's stream closed and nobody told.
+abbrev pub without : ℕ → S.Board → S.Board
 without n w = put n (shut (set (w .responses) (n - 1) [])) w
 
-pub wire-without : (n : ℕ) (w : S.Wire) → clearedAt n (packStreams w) (packClaims w) ≡ packWire (without n w)
-wire-without n w =
+pub board-without : (n : ℕ) (w : S.Board) → clearedAt n (packStreams w) (packClaims w) ≡ packBoard (without n w)
+board-without n w =
     let x = shut (set (w .responses) (n - 1) []) in
     let l = lands-shut n (set (w .responses) (n - 1) []) w in
     λ i. record {
@@ -49,12 +49,12 @@ wire-without n w =
 ordered-closed : OrderedStream closedStream
 ordered-closed = record { requests = ordered-requests [] (omega arith); responses = ordered-responses [] (omega arith) }
 
-module _ {count n : ℕ} {streams : List Stream} {claims : Claims} (h : AtWire count n streams claims) where
+module _ {count n : ℕ} {streams : List Stream} {claims : Claims} (h : AtBoard count n streams claims) where
   abbrev v : Told
   v = toldOf count n true streams claims
 
-  abbrev w : S.Wire
-  w = holdWire count streams claims
+  abbrev w : S.Board
+  w = holdBoard count streams claims
 
   abbrev others : List Stream
   others = set streams (n - 1) closedStream
@@ -72,34 +72,34 @@ module _ {count n : ℕ} {streams : List Stream} {claims : Claims} (h : AtWire c
   -- ---- what is read
 
   pub open-at : getD (v .opens) (n - 1) false ≡ getD streams (n - 1) pastStream .opened
-  unfolding holdWire
+  unfolding holdBoard
   open-at = column-at openAt count (n - 1) streams pastStream below
 
   pub ids-then : column idAt count idsThen ≡ idsLeft n v
-  unfolding holdWire idsLeft
+  unfolding holdBoard idsLeft
   ids-then = column-set idAt count (n - 1) (claims .ids) (record { 0 = 0 })
 
   pub ids-now : column idAt count (claims .ids) ≡ v .ids
-  unfolding holdWire
+  unfolding holdBoard
   ids-now = refl
 
   opens-then : column openAt count others ≡ opensLeft n v
-  unfolding holdWire opensLeft
+  unfolding holdBoard opensLeft
   opens-then = column-set openAt count (n - 1) streams closedStream
 
   responses-then : column responsesAt count others ≡ responsesLeft n v
-  unfolding holdWire responsesLeft
+  unfolding holdBoard responsesLeft
   responses-then = column-set responsesAt count (n - 1) streams closedStream
 
   pub ordered-others : OrderedRows count others
-  ordered-others = record { few = h .wire .few; rows = λ i lt. go i lt (ℕ-discrete i (n - 1)) }
+  ordered-others = record { few = h .board .few; rows = λ i lt. go i lt (ℕ-discrete i (n - 1)) }
     where
       go : (i : ℕ) → i < count → Dec (i ≡ n - 1) → OrderedStream (getD others i pastStream)
       go i lt (yes e) =
-          let few : count ≤ 8 = h .wire .few in
-          let k = rows-eight _ streams (h .wire .streams-same) in
+          let few : count ≤ 8 = h .board .few in
+          let k = rows-eight _ streams (h .board .streams-same) in
           rw (e, getD-set-same streams (n - 1) closedStream pastStream (omega arith)) ordered-closed
-      go i lt (no z) = rw (getD-set-other streams (n - 1) i closedStream pastStream z) (h .wire .rows i lt)
+      go i lt (no z) = rw (getD-set-other streams (n - 1) i closedStream pastStream z) (h .board .rows i lt)
 
   -- ---- room
 
@@ -126,8 +126,8 @@ module _ {count n : ℕ} {streams : List Stream} {claims : Claims} (h : AtWire c
 
   -- ---- the effect
 
-  without-is : clearedAt n streams claims ≡ packWire (without n w)
-  without-is = ap₂ (clearedAt n) (sym (h .wire .streams-same)) (sym (h .wire .claims-same)) ∙ wire-without n w
+  without-is : clearedAt n streams claims ≡ packBoard (without n w)
+  without-is = ap₂ (clearedAt n) (sym (h .board .streams-same)) (sym (h .board .claims-same)) ∙ board-without n w
 
   pub closed-quiet : shifts ≡ false → clearedAt n streams claims ≡ storeTelling n (closed n v) count streams claims
   unfolding closed responsesLeft storeTelling
@@ -138,10 +138,10 @@ module _ {count n : ℕ} {streams : List Stream} {claims : Claims} (h : AtWire c
       ≡ storeTelling n (closed n v) count streams claims
   unfolding closed idsLeft opensLeft responsesLeft storeTelling packClaims
   closed-told e f =
-      let s = sized count streams claims (h .wire) in
+      let s = sized count streams claims (h .board) in
       let n₁ : length (without n w .opens) ≡ length (without n w .responses) = length-set (w .opens) (n - 1) false ∙ s .opens ∙ sym (s .responses) ∙ sym (length-set (w .responses) (n - 1) []) in
       let roomy : roomOpen (without n w .opens) (without n w .responses) ≡ true = ap₂ roomOpen (sym opens-then) (sym responses-then) ∙ sym (room-told e) ∙ f in
-      let rows : packStreams (without n w) ≡ others = ap (λ (x : Wire). x .streams) (sym without-is) in
-      ap₂ {C = Wire} (λ (a : List Bool) (i : List ℕ). record { streams = table mostNodes (tellRow a i others); claims = withClaim n (record { 0 = 0 }) (record { 0 = 0 }) claims }) opens-then ids-then
+      let rows : packStreams (without n w) ≡ others = ap (λ (x : Board). x .streams) (sym without-is) in
+      ap₂ {C = Board} (λ (a : List Bool) (i : List ℕ). record { streams = table mostNodes (tellRow a i others); claims = withClaim n (record { 0 = 0 }) (record { 0 = 0 }) claims }) opens-then ids-then
       ∙ (λ i. record { streams = all-told (without n w) n₁ roomy others rows i; claims = without-is i .claims })
       ∙ simp (change-is true e)

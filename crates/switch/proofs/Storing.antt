@@ -9,25 +9,22 @@ use lib.ListN.{length, getD, set}
 use lib.Seq.{getD-set-same, getD-set-other}
 use Rattle.rules.specs.Limits.{mostNodes}
 use Rattle.rules.specs.State as S
-use Rattle.rules.specs.Parts.{Telling, Told, tellPart}
+use Rattle.rules.specs.Parts.{Telling, tellPart}
 use Rattle.seqs.specs.Columns.{length-column}
 use Rattle.seqs.specs.Tables.{table-get, table-set, table-length}
-use Rattle.state.specs.Hold.{holdWire, packStream, packStreams, packClaims, streamRow, idRow, termRow, openAt, sentAt, requestsAt, responsesAt, idAt, termAt}
-use Rattle.state.specs.Order.{OrderedWire, pastStream}
+use Rattle.state.specs.Hold.{holdBoard, packStream, packStreams, packClaims, streamRow, idRow, termRow, openAt, sentAt, requestsAt, responsesAt, idAt, termAt}
+use Rattle.state.specs.Order.{OrderedBoard, pastStream}
 use Rattle.state.specs.declared.Stream.{Stream}
 use Rattle.state.specs.declared.Claims.{Claims}
 use Rattle.switch.specs.Does.{withClaim}
 
--- What the rules read of a wire, and the wire with what they write of node n.
-abbrev pub told : ℕ → S.Wire → Told
-told n w = tellPart n .get (record { running = true; history = []; wire = w })
-
-abbrev pub put : ℕ → Telling → S.Wire → S.Wire
-put n x w = tellPart n .put x (record { running = true; history = []; wire = w }) .wire
+-- The board with what the rules write of node n.
+abbrev pub put : ℕ → Telling → S.Board → S.Board
+put n x w = tellPart n .put x (record { running = true; history = []; board = w }) .board
 
 -- ---- every column has a row for each node
 
-pub record Sized (count : ℕ) (w : S.Wire) : Type 0 where
+pub record Sized (count : ℕ) (w : S.Board) : Type 0 where
   pub opens : length (w .opens) ≡ count
   pub sent : length (w .sent) ≡ count
   pub requests : length (w .requests) ≡ count
@@ -35,20 +32,20 @@ pub record Sized (count : ℕ) (w : S.Wire) : Type 0 where
   pub ids : length (w .ids) ≡ count
   pub terms : length (w .terms) ≡ count
 
-pub rows-eight : (w : S.Wire) (streams : List Stream) → packStreams w ≡ streams → length streams ≡ mostNodes
+pub rows-eight : (w : S.Board) (streams : List Stream) → packStreams w ≡ streams → length streams ≡ mostNodes
 unfolding packStreams
 rows-eight w streams e = ap length (sym e) ∙ table-length mostNodes (streamRow w)
 
-ids-eight : (w : S.Wire) (claims : Claims) → packClaims w ≡ claims → length (claims .ids) ≡ mostNodes
+ids-eight : (w : S.Board) (claims : Claims) → packClaims w ≡ claims → length (claims .ids) ≡ mostNodes
 unfolding packClaims
 ids-eight w claims e = ap (λ (c : Claims). length (c .ids)) (sym e) ∙ table-length mostNodes (idRow (w .ids))
 
-terms-eight : (w : S.Wire) (claims : Claims) → packClaims w ≡ claims → length (claims .terms) ≡ mostNodes
+terms-eight : (w : S.Board) (claims : Claims) → packClaims w ≡ claims → length (claims .terms) ≡ mostNodes
 unfolding packClaims
 terms-eight w claims e = ap (λ (c : Claims). length (c .terms)) (sym e) ∙ table-length mostNodes (termRow (w .terms))
 
-pub sized : (count : ℕ) (streams : List Stream) (claims : Claims) → OrderedWire count streams claims → Sized count (holdWire count streams claims)
-unfolding holdWire
+pub sized : (count : ℕ) (streams : List Stream) (claims : Claims) → OrderedBoard count streams claims → Sized count (holdBoard count streams claims)
+unfolding holdBoard
 sized count streams claims h =
     let few : count ≤ 8 = h .few in
     let rows = rows-eight _ streams (h .streams-same) in
@@ -63,8 +60,8 @@ sized count streams claims h =
       terms = length-column termAt count (claims .terms) (omega arith);
     }
 
--- a row of the streams that hold a wire
-pub row-at : (w : S.Wire) (streams : List Stream) → packStreams w ≡ streams → (i : ℕ) → i < mostNodes → getD streams i pastStream ≡ streamRow w i
+-- a row of the streams that hold a board
+pub row-at : (w : S.Board) (streams : List Stream) → packStreams w ≡ streams → (i : ℕ) → i < mostNodes → getD streams i pastStream ≡ streamRow w i
 unfolding packStreams
 row-at w streams e i h = ap (λ (l : List Stream). getD l i pastStream) (sym e) ∙ table-get mostNodes (streamRow w) i pastStream h
 
@@ -77,14 +74,14 @@ blank-back (x ∷ l) zero d = refl
 blank-back (x ∷ l) (suc i) d = blank-back l i d
 
 -- what is written of node n is read back
-pub record Lands (n : ℕ) (x : Telling) (w : S.Wire) : Type 0 where
+pub record Lands (n : ℕ) (x : Telling) (w : S.Board) : Type 0 where
   pub opens : getD (set (w .opens) (n - 1) (x .isOpen)) (n - 1) false ≡ x .isOpen
   pub sent : getD (set (w .sent) (n - 1) (x .sent)) (n - 1) 0 ≡ x .sent
   pub requests : getD (set (w .requests) (n - 1) (x .requests)) (n - 1) [] ≡ x .requests
   pub ids : getD (set (w .ids) (n - 1) (x .id)) (n - 1) 0 ≡ x .id
   pub terms : getD (set (w .terms) (n - 1) (x .term)) (n - 1) 0 ≡ x .term
 
-pub lands : (count n : ℕ) (x : Telling) (w : S.Wire) → Sized count w → n - 1 < count → Lands n x w
+pub lands : (count n : ℕ) (x : Telling) (w : S.Board) → Sized count w → n - 1 < count → Lands n x w
 lands count n x w s h =
     let a = s .opens in
     let b = s .sent in
@@ -103,7 +100,7 @@ lands count n x w s h =
 abbrev pub shut : List (List S.Response) → Telling
 shut responses = record { isOpen = false; sent = 0; requests = []; responses = responses; id = 0; term = 0 }
 
-pub lands-shut : (n : ℕ) (responses : List (List S.Response)) (w : S.Wire) → Lands n (shut responses) w
+pub lands-shut : (n : ℕ) (responses : List (List S.Response)) (w : S.Board) → Lands n (shut responses) w
 lands-shut n responses w = record {
   opens = blank-back (w .opens) (n - 1) false;
   sent = blank-back (w .sent) (n - 1) 0;
@@ -112,7 +109,7 @@ lands-shut n responses w = record {
   terms = blank-back (w .terms) (n - 1) 0;
 }
 
-module _ (n : ℕ) (x : Telling) (w : S.Wire) (l : Lands n x w) where
+module _ (n : ℕ) (x : Telling) (w : S.Board) (l : Lands n x w) where
   pub store-row : (d : List S.Response) → getD (x .responses) (n - 1) [] ≡ d → ((i : ℕ) → i ≢ n - 1 → getD (x .responses) i [] ≡ getD (w .responses) i [])
       → set (packStreams w) (n - 1) (packStream (x .isOpen) (x .sent) (x .requests) d) ≡ packStreams (put n x w)
   unfolding packStreams

@@ -21,7 +21,7 @@ use Rattle.parts.specs.Queues.{pushResponse}
 use Rattle.state.specs.Hold.{packStream, packStreams, streamRow}
 use Rattle.state.specs.Order.{pastStream}
 use Rattle.state.specs.declared.Stream.{Stream}
-use Rattle.streams.specs.Does.{told, tellRow}
+use Rattle.streams.specs.Does.{responded, tellRow}
 use Rattle.switch.proofs.Storing.{row-at}
 
 -- a response goes last in a queue that has room
@@ -58,7 +58,7 @@ tell-at k ids (o ∷ os) [] i n = absurd (omega arith)
 tell-at k ids (o ∷ os) (q ∷ qs) zero n = rw (add-zero k)
 tell-at k ids (o ∷ os) (q ∷ qs) (suc i) n = rw (add-suc k i, ← suc-add k i) (tell-at (suc k) ids os qs i (let e : suc (length os) ≡ suc (length qs) = n in omega arith))
 
-abbrev pub withResponses : List (List S.Response) → S.Wire → S.Wire
+abbrev pub withResponses : List (List S.Response) → S.Board → S.Board
 withResponses responses w = record {
   opens = w .opens;
   sent = w .sent;
@@ -69,9 +69,9 @@ withResponses responses w = record {
   last = w .last;
 }
 
-module _ (w : S.Wire) (n : length (w .opens) ≡ length (w .responses)) (roomy : roomOpen (w .opens) (w .responses) ≡ true) where
+module _ (w : S.Board) (n : length (w .opens) ≡ length (w .responses)) (roomy : roomOpen (w .opens) (w .responses) ≡ true) where
   row-told : (i : ℕ) (b : Bool) → getD (w .opens) i false ≡ b
-      → cond b (told (packResponse (news (w .ids) (i + 1))) (streamRow w i)) (streamRow w i)
+      → cond b (responded (packResponse (news (w .ids) (i + 1))) (streamRow w i)) (streamRow w i)
       ≡ packStream (getD (w .opens) i false) (getD (w .sent) i 0) (getD (w .requests) i []) (cond b (push (news (w .ids) (i + 1)) (getD (w .responses) i [])) (getD (w .responses) i []))
   row-told i false e = refl
   row-told i true e =
@@ -84,7 +84,7 @@ module _ (w : S.Wire) (n : length (w .opens) ≡ length (w .responses)) (roomy :
       let new = tellRow (w .opens) (w .ids) streams in
       table-of mostNodes (streamRow (withResponses (tellAll (w .ids) (w .opens) (w .responses)) w)) (table mostNodes new) pastStream (table-length mostNodes new) (λ i lt.
       table-get mostNodes new i pastStream lt
-      ∙ ap (λ (r : Stream). cond (getD (w .opens) i false) (told (packResponse (news (w .ids) (i + 1))) r) r) (row-at w streams e i lt)
+      ∙ ap (λ (r : Stream). cond (getD (w .opens) i false) (responded (packResponse (news (w .ids) (i + 1))) r) r) (row-at w streams e i lt)
       ∙ row-told i (getD (w .opens) i false) refl
       ∙ ap (λ (q : List S.Response). packStream (getD (w .opens) i false) (getD (w .sent) i 0) (getD (w .requests) i []) q)
       (ap (λ (k : ℕ). cond (getD (w .opens) i false) (push (news (w .ids) k) (getD (w .responses) i [])) (getD (w .responses) i [])) (omega arith)

@@ -23,35 +23,35 @@ use Rattle.parts.specs.Ordered.{pop-requests}
 use Rattle.parts.specs.declared.ElectionId.{ElectionId}
 use Rattle.parts.specs.declared.Message.the-variants as M
 use Rattle.parts.specs.declared.Response.{Response}
-use Rattle.state.specs.Hold.{holdWire, packStream, packStreams, packClaims, streamRow, openAt, requestsAt, responsesAt, idAt}
+use Rattle.state.specs.Hold.{holdBoard, packStream, packStreams, packClaims, streamRow, openAt, requestsAt, responsesAt, idAt}
 use Rattle.state.specs.Order.{pastStream}
 use Rattle.state.specs.Reads.{answerOf, toldOf}
-use Rattle.state.specs.Stores.{packWire, storeTelling}
+use Rattle.state.specs.Stores.{packBoard, storeTelling}
 use Rattle.state.specs.declared.Stream.{Stream}
 use Rattle.state.specs.declared.Claims.{Claims}
-use Rattle.state.specs.declared.Wire.{Wire}
+use Rattle.state.specs.declared.Board.{Board}
 use Rattle.streams.specs.Asks.{HasHead}
-use Rattle.streams.specs.Does.{told, withoutHead, able, tellRow, waiting}
+use Rattle.streams.specs.Does.{responded, withoutHead, able, tellRow, waiting}
 use Rattle.streams.proofs.Answers.{answer-by, byTests, clear}
 use Rattle.streams.proofs.Waiting.{Ready, ready, running-too, message, update-waits, no-update-waits}
-use Rattle.switch.specs.Asks.{AtWire, UpdateAt}
+use Rattle.switch.specs.Asks.{AtBoard, UpdateAt}
 use Rattle.switch.specs.Does.{collides, withClaim}
 use Rattle.switch.proofs.Storing.{put, lands, store-row, store-claim, sized, row-at}
 use Rattle.switch.proofs.Telling.{push-packed, all-told}
 use Rattle.switch.proofs.Closing.{below, open-at, close-answer}
 
-module _ {count n : ℕ} {streams : List Stream} {claims : Claims} (h : AtWire count n streams claims) where
+module _ {count n : ℕ} {streams : List Stream} {claims : Claims} (h : AtBoard count n streams claims) where
   abbrev row : Stream
   row = getD streams (n - 1) pastStream
 
   -- ---- what is read
 
-  pub requests-at : getD (holdWire count streams claims .requests) (n - 1) [] ≡ holdRequests (row .requests)
-  unfolding holdWire
+  pub requests-at : getD (holdBoard count streams claims .requests) (n - 1) [] ≡ holdRequests (row .requests)
+  unfolding holdBoard
   requests-at = column-at requestsAt count (n - 1) streams pastStream (below h)
 
-  responses-at : getD (holdWire count streams claims .responses) (n - 1) [] ≡ holdResponses (row .responses)
-  unfolding holdWire
+  responses-at : getD (holdBoard count streams claims .responses) (n - 1) [] ≡ holdResponses (row .responses)
+  unfolding holdBoard
   responses-at = column-at responsesAt count (n - 1) streams pastStream (below h)
 
   pub update-allowed : (running : Bool) → handleUpdateRule n .allowed (toldOf count n running streams claims) ≡ (able running row && isUpdate (message row))
@@ -83,14 +83,14 @@ module _ {count n : ℕ} {streams : List Stream} {claims : Claims} (h : AtWire c
 
 -- An update that may be handled waits at the head of n's requests.
 module _ {count n : ℕ} {streams : List Stream} {claims : Claims} (u : UpdateAt count n streams claims) where
-  abbrev h : AtWire count n streams claims
+  abbrev h : AtBoard count n streams claims
   h = u .at
 
   abbrev v : Told
   v = toldOf count n true streams claims
 
-  abbrev w : S.Wire
-  w = holdWire count streams claims
+  abbrev w : S.Board
+  w = holdBoard count streams claims
 
   abbrev r : Stream
   r = getD streams (n - 1) pastStream
@@ -102,7 +102,7 @@ module _ {count n : ℕ} {streams : List Stream} {claims : Claims} (u : UpdateAt
   can = ready true r (isUpdate (message r)) (sym (update-allowed h true) ∙ u .allowed)
 
   pub has-head : HasHead r
-  has-head = record { ordered = h .wire .rows (n - 1) lt; some = can .some }
+  has-head = record { ordered = h .board .rows (n - 1) lt; some = can .some }
 
   -- the head is what the rule asks of
   pub head-is : packRequest (first noRequest (holdRequests (r .requests))) ≡ packRequest (asked v)
@@ -121,11 +121,11 @@ module _ {count n : ℕ} {streams : List Stream} {claims : Claims} (u : UpdateAt
   shifts = changes (column idAt count (claims .ids)) (column idAt count idsThen)
 
   pub ids-then : column idAt count idsThen ≡ idsWith n v
-  unfolding holdWire idsWith
+  unfolding holdBoard idsWith
   ids-then = column-set idAt count (n - 1) (claims .ids) (record { 0 = asked v .id })
 
   pub collides-is : taken n (asked v .id) (column idAt count (claims .ids)) ≡ collides n v
-  unfolding holdWire
+  unfolding holdBoard
   collides-is = refl
 
   -- a collision closes the stream
@@ -151,11 +151,11 @@ module _ {count n : ℕ} {streams : List Stream} {claims : Claims} (u : UpdateAt
   -- ---- room
 
   change-is : (b : Bool) → shifts ≡ b → changes (v .ids) (idsWith n v) ≡ b
-  unfolding holdWire
+  unfolding holdBoard
   change-is b e = ap (changes (v .ids)) (sym ids-then) ∙ e
 
   pub room-all : shifts ≡ true → updateRoom n v ≡ roomOpen (column openAt count streams) (column responsesAt count streams)
-  unfolding updateRoom holdWire
+  unfolding updateRoom holdBoard
   room-all e = simp (change-is true e)
 
   pub room-one : shifts ≡ false → updateRoom n v ≡ room (holdResponses (r .responses))
@@ -172,7 +172,7 @@ module _ {count n : ℕ} {streams : List Stream} {claims : Claims} (u : UpdateAt
   took responses = record { isOpen = true; sent = v .sent; requests = rest (v .requests); responses = responses; id = asked v .id; term = asked v .term }
 
   row-is : r ≡ streamRow w (n - 1)
-  row-is = let few : count ≤ 8 = h .wire .few in let k = lt in row-at w streams (h .wire .streams-same) (n - 1) (omega arith)
+  row-is = let few : count ≤ 8 = h .board .few in let k = lt in row-at w streams (h .board .streams-same) (n - 1) (omega arith)
 
   open-is : getD (w .opens) (n - 1) false ≡ true
   open-is = open-at h ∙ can .opened
@@ -187,23 +187,23 @@ module _ {count n : ℕ} {streams : List Stream} {claims : Claims} (u : UpdateAt
 
   claims-are : (responses : List (List S.Response)) → claimsThen ≡ packClaims (put n (took responses) w)
   claims-are responses =
-      ap (withClaim n (record { 0 = asked v .id }) (record { 0 = asked v .term })) (sym (h .wire .claims-same))
-      ∙ store-claim n (took responses) w (lands count n (took responses) w (sized count streams claims (h .wire)) lt)
+      ap (withClaim n (record { 0 = asked v .id }) (record { 0 = asked v .term })) (sym (h .board .claims-same))
+      ∙ store-claim n (took responses) w (lands count n (took responses) w (sized count streams claims (h .board)) lt)
 
   rows-are : set streams (n - 1) (withoutHead r) ≡ packStreams (put n (took (w .responses)) w)
   rows-are =
-      ap₂ (λ (l : List Stream) (x : Stream). set l (n - 1) x) (sym (h .wire .streams-same)) without-head-is
-      ∙ store-row n (took (w .responses)) w (lands count n (took (w .responses)) w (sized count streams claims (h .wire)) lt) (getD (w .responses) (n - 1) []) refl (λ i z. refl)
+      ap₂ (λ (l : List Stream) (x : Stream). set l (n - 1) x) (sym (h .board .streams-same)) without-head-is
+      ∙ store-row n (took (w .responses)) w (lands count n (took (w .responses)) w (sized count streams claims (h .board)) lt) (getD (w .responses) (n - 1) []) refl (λ i z. refl)
 
   opens-stay : set (w .opens) (n - 1) true ≡ w .opens
   opens-stay = ap (set (w .opens) (n - 1)) (sym open-is) ∙ set-getD (w .opens) (n - 1) false
 
   opens-then : column openAt count (set streams (n - 1) (withoutHead r)) ≡ set (w .opens) (n - 1) true
-  unfolding holdWire
+  unfolding holdBoard
   opens-then = column-set openAt count (n - 1) streams (withoutHead r) ∙ ap (set (column openAt count streams) (n - 1)) (can .opened)
 
   roomy : shifts ≡ true → updateRoom n v ≡ true → roomOpen (set (w .opens) (n - 1) true) (w .responses) ≡ true
-  unfolding holdWire
+  unfolding holdBoard
   roomy e f = ap (λ (o : List Bool). roomOpen o (w .responses)) opens-stay ∙ sym (room-all e) ∙ f
 
   -- the master changes, and all are told
@@ -213,29 +213,29 @@ module _ {count n : ℕ} {streams : List Stream} {claims : Claims} (u : UpdateAt
       ≡ storeTelling n (updated n v) count streams claims)
   unfolding updated idsWith storeTelling packClaims
   updated-all e f =
-      let s = sized count streams claims (h .wire) in
+      let s = sized count streams claims (h .board) in
       let next = set streams (n - 1) (withoutHead r) in
       let after = put n (took (w .responses)) w in
       let k : length (after .opens) ≡ length (after .responses) = length-set (w .opens) (n - 1) true ∙ s .opens ∙ sym (s .responses) in
-      ap₂ {C = Wire} (λ (o : List Bool) (i : List ℕ). record { streams = table mostNodes (tellRow o i next); claims = claimsThen }) opens-then ids-then
+      ap₂ {C = Board} (λ (o : List Bool) (i : List ℕ). record { streams = table mostNodes (tellRow o i next); claims = claimsThen }) opens-then ids-then
       ∙ (λ i. record { streams = all-told after k (roomy e f) next (sym rows-are) i; claims = claims-are (w .responses) i })
-      ∙ ap (λ (o : List Bool). packWire (put n (took (tellAll (after .ids) o (w .responses))) w)) opens-stay
+      ∙ ap (λ (o : List Bool). packBoard (put n (took (tellAll (after .ids) o (w .responses))) w)) opens-stay
       ∙ simp (change-is true e)
 
   -- the master stays, and only n is told
   pub updated-one : shifts ≡ false → updateRoom n v ≡ true
-      → record { streams = set streams (n - 1) (told (packResponse (news (idsWith n v) n)) (withoutHead r)); claims = claimsThen }
+      → record { streams = set streams (n - 1) (responded (packResponse (news (idsWith n v) n)) (withoutHead r)); claims = claimsThen }
       ≡ storeTelling n (updated n v) count streams claims
   unfolding updated storeTelling
   updated-one e f =
-      let s = sized count streams claims (h .wire) in
+      let s = sized count streams claims (h .board) in
       let q = getD (w .responses) (n - 1) [] in
       let pushed = push (news (idsWith n v) n) q in
       let responses = set (w .responses) (n - 1) pushed in
       let b : n - 1 < length (w .responses) = let k = s .responses in let j = lt in omega arith in
       let space : room q ≡ true = ap room (responses-at h) ∙ sym (room-one e) ∙ f in
-      let x : told (packResponse (news (idsWith n v) n)) (withoutHead r) ≡ packStream true (v .sent) (rest (v .requests)) pushed =
-      ap (told (packResponse (news (idsWith n v) n))) without-head-is
+      let x : responded (packResponse (news (idsWith n v) n)) (withoutHead r) ≡ packStream true (v .sent) (rest (v .requests)) pushed =
+      ap (responded (packResponse (news (idsWith n v) n))) without-head-is
       ∙ (λ i. record {
         opened = true;
         sent = record { 0 = v .sent };
@@ -244,7 +244,7 @@ module _ {count n : ℕ} {streams : List Stream} {claims : Claims} (u : UpdateAt
       }) in
       (λ i. record {
         streams =
-            (ap₂ (λ (l : List Stream) (y : Stream). set l (n - 1) y) (sym (h .wire .streams-same)) x
+            (ap₂ (λ (l : List Stream) (y : Stream). set l (n - 1) y) (sym (h .board .streams-same)) x
             ∙ store-row n (took responses) w (lands count n (took responses) w s lt) pushed (getD-set-same (w .responses) (n - 1) pushed [] b) (λ j z. getD-set-other (w .responses) (n - 1) j pushed [] z))
             i;
         claims = claims-are responses i;

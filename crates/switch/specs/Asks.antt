@@ -7,25 +7,25 @@ use Rattle.rules.specs.Codes.{stepDone}
 use Rattle.rules.specs.Part.{Rule, decide}
 use Rattle.rules.specs.Parts.{Told, Telling}
 use Rattle.rules.specs.Rules.{handleUpdateRule, updateRoom}
-use Rattle.state.specs.Order.{OrderedWire}
+use Rattle.state.specs.Order.{OrderedBoard}
 use Rattle.state.specs.Reads.{answerOf, toldOf}
 use Rattle.state.specs.declared.Stream.{Stream}
 use Rattle.state.specs.declared.Claims.{Claims}
 
 -- A node, and all streams in order.
-pub record AtWire (count node : ℕ) (streams : List Stream) (claims : Claims) : Type 0 where
-  pub wire : OrderedWire count streams claims
+pub record AtBoard (count node : ℕ) (streams : List Stream) (claims : Claims) : Type 0 where
+  pub board : OrderedBoard count streams claims
   pub from : 1 ≤ node
   pub upto : node ≤ count
 
 -- The same, where the rule answers that the step is done.
 pub record Tells (rule : ℕ → Rule Told Telling) (count node : ℕ) (streams : List Stream) (claims : Claims) : Type 0 where
-  pub at : AtWire count node streams claims
+  pub at : AtBoard count node streams claims
   pub goes : answerOf (decide (rule node) (toldOf count node true streams claims)) ≡ stepDone
 
 -- An update that may be handled is at the head of the node's requests.
 pub record UpdateAt (count node : ℕ) (streams : List Stream) (claims : Claims) : Type 0 where
-  pub at : AtWire count node streams claims
+  pub at : AtBoard count node streams claims
   pub allowed : handleUpdateRule node .allowed (toldOf count node true streams claims) ≡ true
 
 -- The same, with room for what taking it tells.

@@ -11,7 +11,7 @@ use Rattle.parts.specs.declared.Term.{Term}
 use Rattle.state.specs.Hold.{packStream}
 use Rattle.state.specs.declared.Stream.{Stream}
 use Rattle.state.specs.declared.Claims.{Claims}
-use Rattle.state.specs.declared.Wire.{Wire}
+use Rattle.state.specs.declared.Board.{Board}
 
 abbrev pub closedStream : Stream
 closedStream = packStream false 0 [] []
@@ -20,7 +20,7 @@ abbrev pub withClaim : ℕ → ElectionId → Term → Claims → Claims
 withClaim n id term c = record { ids = set (c .ids) (n - 1) id; terms = set (c .terms) (n - 1) term; last = c .last }
 
 -- Node n's stream closed, with its id and term cleared.
-abbrev pub clearedAt : ℕ → List Stream → Claims → Wire
+abbrev pub clearedAt : ℕ → List Stream → Claims → Board
 clearedAt n streams claims = record {
   streams = set streams (n - 1) closedStream;
   claims = withClaim n (record { 0 = 0 }) (record { 0 = 0 }) claims;

@@ -7,20 +7,20 @@ ghost use Rattle.rules.specs.Limits.{mostNodes};
 ghost use Rattle.rules.specs.Part.{decide};
 ghost use Rattle.rules.specs.Rules as R;
 ghost use Rattle.rules.specs.Rules.{connectRule, closeRule, closeRoom, handleUpdateRule, updateRoom, cleared};
-ghost use Rattle.state.specs.Hold.{holdWire};
-ghost use Rattle.state.specs.Order.{OrderedWire};
+ghost use Rattle.state.specs.Hold.{holdBoard};
+ghost use Rattle.state.specs.Order.{OrderedBoard};
 ghost use Rattle.state.specs.Reads.{answerOf, linkedOf, toldOf};
-ghost use Rattle.state.specs.Stores.{storeOpen, storeTelling, packWire};
-ghost use Rattle.switch.specs.Asks.{AtWire, Tells, UpdateAt, CanUpdate};
+ghost use Rattle.state.specs.Stores.{storeOpen, storeTelling, packBoard};
+ghost use Rattle.switch.specs.Asks.{AtBoard, Tells, UpdateAt, CanUpdate};
 ghost use Rattle.switch.specs.Does.{closedStream, withClaim, clearedAt, collides};
 use parts::ElectionId;
 use parts::Message;
 use parts::RequestQueue;
 use parts::ResponseQueue;
 use parts::Term;
+use state::Board;
 use state::Claims;
 use state::Stream;
-use state::Wire;
 
 // 8 Connect: its answer.
 pub fn connect_code(running: bool, stream: Stream) -> u8
@@ -71,7 +71,7 @@ fn with_claim(node: u8, id: ElectionId, term: Term, claims: Claims) -> Claims
 }
 
 // The node's stream is closed, and what the switch holds of it cleared. Nobody is told.
-fn cleared_at(node: u8, streams: [Stream; 8], claims: Claims) -> Wire
+fn cleared_at(node: u8, streams: [Stream; 8], claims: Claims) -> Board
     requires { ⌜ (1 ≤ node) × (node ≤ mostNodes) ⌝ }
     ensures { λ r. ⌜ r ≡ clearedAt node streams claims ⌝ }
 {
@@ -79,7 +79,7 @@ fn cleared_at(node: u8, streams: [Stream; 8], claims: Claims) -> Wire
     let mut next = streams;
     next[at] = closed_stream();
     let cleared = with_claim(node, ElectionId(0), Term(0), claims);
-    Wire {
+    Board {
         streams: next,
         claims: cleared,
     }
@@ -87,7 +87,7 @@ fn cleared_at(node: u8, streams: [Stream; 8], claims: Claims) -> Wire
 
 // Whether all streams that closing the node's would tell have room.
 fn close_room(count: u8, node: u8, streams: [Stream; 8], claims: Claims) -> bool
-    requires { ⌜ AtWire count node streams claims ⌝ }
+    requires { ⌜ AtBoard count node streams claims ⌝ }
     ensures { λ r. ⌜ r ≡ closeRoom node (toldOf count node true streams claims) ⌝ }
 {
     let ids = claims.ids;
@@ -104,7 +104,7 @@ fn close_room(count: u8, node: u8, streams: [Stream; 8], claims: Claims) -> bool
 
 // 9 Close: its answer.
 pub fn close_code(count: u8, node: u8, streams: [Stream; 8], claims: Claims) -> u8
-    requires { ⌜ AtWire count node streams claims ⌝ }
+    requires { ⌜ AtBoard count node streams claims ⌝ }
     ensures { λ r. ⌜ r ≡ answerOf (decide (closeRule node) (toldOf count node true streams claims)) ⌝ }
 {
     let at = (node - 1) as usize;
@@ -119,7 +119,7 @@ pub fn close_code(count: u8, node: u8, streams: [Stream; 8], claims: Claims) -> 
 }
 
 // 9 Close: the stream is closed, and where the switch's master changes, every stream still open is told.
-pub fn close(count: u8, node: u8, streams: [Stream; 8], claims: Claims) -> Wire
+pub fn close(count: u8, node: u8, streams: [Stream; 8], claims: Claims) -> Board
     requires { ⌜ Tells closeRule count node streams claims ⌝ }
     ensures { λ r. ⌜ r ≡ storeTelling node (closeRule node .effect (toldOf count node true streams claims)) count streams claims ⌝ }
 {
@@ -130,7 +130,7 @@ pub fn close(count: u8, node: u8, streams: [Stream; 8], claims: Claims) -> Wire
     if streams::master_changes(count, ids, ids_left) {
         let rows = left.streams;
         let told = streams::tell_all(count, ids_left, rows);
-        return Wire {
+        return Board {
             streams: told,
             claims: held,
         };
@@ -191,7 +191,7 @@ pub fn handle_update_code(
     streams: [Stream; 8],
     claims: Claims,
 ) -> u8
-    requires { ⌜ AtWire count node streams claims ⌝ }
+    requires { ⌜ AtBoard count node streams claims ⌝ }
     ensures { λ r. ⌜ r ≡ answerOf (decide (handleUpdateRule node) (toldOf count node running streams claims)) ⌝ }
 {
     let at = (node - 1) as usize;
@@ -210,7 +210,7 @@ pub fn handle_update_code(
 
 // The update at the head of the node's requests is taken off, and its id and term become the node's.
 // Where the switch's master changes, every open stream is told, and else the node's alone.
-fn updated(count: u8, node: u8, streams: [Stream; 8], claims: Claims) -> Wire
+fn updated(count: u8, node: u8, streams: [Stream; 8], claims: Claims) -> Board
     requires { ⌜ CanUpdate count node streams claims ⌝ }
     ensures { λ r. ⌜ r ≡ storeTelling node (R.updated node (toldOf count node true streams claims)) count streams claims ⌝ }
 {
@@ -227,20 +227,20 @@ fn updated(count: u8, node: u8, streams: [Stream; 8], claims: Claims) -> Wire
     if streams::master_changes(count, old, ids) {
         next[at] = row;
         let told = streams::tell_all(count, ids, next);
-        return Wire {
+        return Board {
             streams: told,
             claims: held,
         };
     }
     next[at] = streams::tell_one(count, node, ids, row);
-    Wire {
+    Board {
         streams: next,
         claims: held,
     }
 }
 
 // 10 Handle update: a collision closes the stream, and any other update is taken.
-pub fn handle_update(count: u8, node: u8, streams: [Stream; 8], claims: Claims) -> Wire
+pub fn handle_update(count: u8, node: u8, streams: [Stream; 8], claims: Claims) -> Board
     requires { ⌜ Tells handleUpdateRule count node streams claims ⌝ }
     ensures { λ r. ⌜ r ≡ storeTelling node (handleUpdateRule node .effect (toldOf count node true streams claims)) count streams claims ⌝ }
 {
@@ -251,11 +251,11 @@ pub fn handle_update(count: u8, node: u8, streams: [Stream; 8], claims: Claims) 
 }
 
 // 12 Shutdown: every stream is closed, with nobody told. The last accepted term stays.
-pub fn shutdown(count: u8, streams: [Stream; 8], claims: Claims) -> Wire
-    requires { ⌜ OrderedWire count streams claims ⌝ }
-    ensures { λ r. ⌜ r ≡ packWire (cleared (holdWire count streams claims)) ⌝ }
+pub fn shutdown(count: u8, streams: [Stream; 8], claims: Claims) -> Board
+    requires { ⌜ OrderedBoard count streams claims ⌝ }
+    ensures { λ r. ⌜ r ≡ packBoard (cleared (holdBoard count streams claims)) ⌝ }
 {
-    let mut next = Wire {
+    let mut next = Board {
         streams: streams,
         claims: claims,
     };

@@ -47,7 +47,7 @@ pub fn find_left(
     start: usize,
     event: Record,
 ) -> usize
-    requires { ⌜ Trails (now second) trailer × Placed (now places) (trailer .count) × (start ≤ trailer .count) ⌝ }
+    requires { ⌜ Trails (now second) trailer × Placed (now places) (trailer .records) × (start ≤ trailer .records) ⌝ }
     ensures { λ r. ⌜ Sought (isThere (now (second .entry)) (eventOf event) (now (places .entry))) start (length (now (places .entry))) r ⌝ }
 {
     let mut i = start;
@@ -63,11 +63,11 @@ pub fn find_left(
 
 // This record, in the first list.
 pub fn find_record(first: &[u8], trailer: Trailer, start: usize, event: Record) -> usize
-    requires { ⌜ Trails (now first) trailer × (start ≤ trailer .count) ⌝ }
-    ensures { λ r. ⌜ Sought (λ a. sameEvent (recordAt (now (first .entry)) a) (eventOf event)) start (trailer .count) r ⌝ }
+    requires { ⌜ Trails (now first) trailer × (start ≤ trailer .records) ⌝ }
+    ensures { λ r. ⌜ Sought (λ a. sameEvent (recordAt (now (first .entry)) a) (eventOf event)) start (trailer .records) r ⌝ }
 {
     let mut i = start;
-    while i < trailer.count {
+    while i < trailer.records {
         if alike(lists::read_record(first, trailer.first, i), event) {
             return i;
         }
@@ -78,7 +78,7 @@ pub fn find_record(first: &[u8], trailer: Trailer, start: usize, event: Record) 
 
 // The letters of the second list.
 pub fn fill_letters(second: &[u8], trailer: Trailer, letters: &mut [u8])
-    requires { ⌜ Trails (now second) trailer × (length (now letters) ≡ trailer .count) ⌝ }
+    requires { ⌜ Trails (now second) trailer × (length (now letters) ≡ trailer .records) ⌝ }
     ensures { λ _. ⌜ Lettered (now (second .entry)) (now (letters .exit)) (recordCount (now (second .entry))) ⌝ }
 {
     let mut i: usize = 0;

@@ -55,7 +55,7 @@ fn print_open(state: State) {
     let report = stepper::open_streams(state);
     print_number(b"  open: code ", report.code as u64);
     print_number(b" word ", report.word as u64);
-    print_number(b" count ", report.count as u64);
+    print_number(b" count ", report.number as u64);
     io::write_all(STDOUT_FILENO, b"\n");
 }
 

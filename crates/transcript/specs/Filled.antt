@@ -40,9 +40,9 @@ filled list before after returned none room r o =
     let history = wholeRun list .state .history in
     let writes : returned ≡ noWrites + length history = r ∙ ap (λ (x : Ran). x .returned) run in
     let few = few-writes list (good list none) in
-    let count : returned - noWrites ≡ length history = omega arith in
+    let kept : returned - noWrites ≡ length history = omega arith in
     record {
       done = omega arith;
       few = omega arith;
-      text = rw (count, o ∙ ap (λ (x : Ran). x .out) run) (bytes-text list answers history (drop (length (answers ++ historyBytes history)) before) (all-answered list (good list none)) ∙ sym (run-text list none));
+      text = rw (kept, o ∙ ap (λ (x : Ran). x .out) run) (bytes-text list answers history (drop (length (answers ++ historyBytes history)) before) (all-answered list (good list none)) ∙ sym (run-text list none));
     }

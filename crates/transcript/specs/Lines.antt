@@ -33,10 +33,10 @@ module _ {f : ℕ → List ℕ} {most : ℕ} {l : List ℕ} {at n : ℕ} {m : Li
     short = let s = p .short in let t = q .place in rw (add-one n, mul-suc most n) (omega arith);
   }
 
-  pub lined-room : (count : ℕ) → n < count → at + most * count ≤ length l → Room m i line
-  lined-room count h r =
+  pub lined-room : (total : ℕ) → n < total → at + most * total ≤ length l → Room m i line
+  lined-room total h r =
       let s = p .short in
       let same = put-length (p .put) in
-      let more : most * suc n ≤ most * count = mul-le-mul-left most h in
+      let more : most * suc n ≤ most * total = mul-le-mul-left most h in
       let t : most * suc n ≡ most * n + most = mul-suc most n in
       record { enough = omega arith }

@@ -23,12 +23,12 @@ const NO_WRITES: u32 = 256;
 
 // A line for each record. It has at most 18 bytes: a place of five digits, and three bytes of three digits.
 fn put_records(buf: &mut [u8], list: &[u8], trailer: Trailer, answers: &[u8]) -> usize
-    requires { ⌜ Trails (now list) trailer × (trailer .count ≤ length (now answers)) × (18 * trailer .count ≤ length (now buf)) ⌝ }
-    ensures { λ r. ⌜ Lined (recordLineAt (now (list .entry)) (now (answers .entry))) 18 (now (buf .entry)) 0 (trailer .count) (now (buf .exit)) r ⌝ }
+    requires { ⌜ Trails (now list) trailer × (trailer .records ≤ length (now answers)) × (18 * trailer .records ≤ length (now buf)) ⌝ }
+    ensures { λ r. ⌜ Lined (recordLineAt (now (list .entry)) (now (answers .entry))) 18 (now (buf .entry)) 0 (trailer .records) (now (buf .exit)) r ⌝ }
 {
     let mut at: usize = 0;
     let mut i: usize = 0;
-    while i < trailer.count {
+    while i < trailer.records {
         let event = lists::read_record(list, trailer.first, i);
         at = text::put_record_line(buf, at, (i + 1) as u32, event.kind, event.node, answers[i]);
         i += 1;
@@ -60,13 +60,13 @@ fn put_writes(buf: &mut [u8], at: usize, part: &[u8], writes: usize) -> usize
 
 // The whole text of a list that is not refused, from the buffer that its run has filled.
 fn put_run(buf: &mut [u8], list: &[u8], trailer: Trailer, out: &[u8], writes: u32) -> usize
-    requires { ⌜ Trails (now list) trailer × (writes ≤ historyLength) × (trailer .count + 4 * writes ≤ length (now out)) × (longestText ≤ length (now buf)) ⌝ }
+    requires { ⌜ Trails (now list) trailer × (writes ≤ historyLength) × (trailer .records + 4 * writes ≤ length (now out)) × (longestText ≤ length (now buf)) ⌝ }
     ensures { λ r. ⌜ Put (now (buf .entry)) 0 (bytesText (now (list .entry)) (now (out .entry)) writes) (now (buf .exit)) r × (r ≤ longestText) ⌝ }
 {
-    let count = trailer.count;
+    let records = trailer.records;
     let writes_at = put_records(buf, list, trailer, out);
     let next = text::put_writes_line(buf, writes_at, writes);
-    put_writes(buf, next, &out[count..], writes as usize)
+    put_writes(buf, next, &out[records..], writes as usize)
 }
 
 // Runs a list from a fresh state and puts what the program prints at the front of the buffer. Returns how many bytes that is.

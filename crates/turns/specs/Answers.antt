@@ -4,7 +4,7 @@ use mathlib.Core.Bool.{Bool, true, false, not, cond}
 use mathlib.Core.List.{List}
 use Prim.Native.Nat.{ℕ}
 use lib.Dec.{leb}
-use Rattle.rules.specs.Codes.{stepDone, notAllowed, termsSpent, historyFull, queueFull}
+use Rattle.rules.specs.Codes.{stepDone, notAllowed, termLimit, historyFull, queueFull}
 use Rattle.rules.specs.Limits.{queueLength}
 use Rattle.rules.specs.Queues.{room}
 use Rattle.rules.specs.Part.{Rule, done, need, decide}
@@ -14,7 +14,7 @@ use Rattle.seqs.specs.Queue.{room-held}
 use Rattle.parts.specs.Hold.{noRequest, packRequest, holdRequest, requestsQueue, holdRequests}
 use Rattle.state.specs.Order.{OrderedStream}
 use Rattle.state.specs.Reads.{answerOf, inboxOf, senderOf, receiverOf, toldOf, powerOf}
-use Rattle.state.specs.declared.Node.{Node}
+use Rattle.state.specs.declared.Controller.{Controller}
 use Rattle.state.specs.declared.Stream.{Stream}
 use Rattle.state.specs.declared.Claims.{Claims}
 use Rattle.nodes.specs.Waiting.{sendAnswer, updateWaits, writeWaits}
@@ -26,22 +26,22 @@ module _ {R W : Type 0} (r : Rule R W) (v : R) where
   unfolding decide
   allowed-answer t h q = rw (t, h, q) (go (r .allowed v))
     where
-      go : (b : Bool) → cond b stepDone notAllowed ≡ answerOf (need b notAllowed (need true termsSpent (need true historyFull (need true queueFull (done stepDone (r .effect v))))))
+      go : (b : Bool) → cond b stepDone notAllowed ≡ answerOf (need b notAllowed (need true termLimit (need true historyFull (need true queueFull (done stepDone (r .effect v))))))
       go true = refl
       go false = refl
 
-pub learn-answer : (node : Node) → cond (learnRule .allowed (inboxOf node)) stepDone notAllowed ≡ answerOf (decide learnRule (inboxOf node))
+pub learn-answer : (controller : Controller) → cond (learnRule .allowed (inboxOf controller)) stepDone notAllowed ≡ answerOf (decide learnRule (inboxOf controller))
 unfolding learnRule
-learn-answer node = allowed-answer learnRule (inboxOf node) refl refl refl
+learn-answer controller = allowed-answer learnRule (inboxOf controller) refl refl refl
 
-module _ (count : ℕ) (node : Node) (stream : Stream) where
-  pub receive-update-answer : (n : ℕ) → cond (updateWaits stream) stepDone notAllowed ≡ answerOf (decide (receiveUpdateRule n) (receiverOf count node stream))
+module _ (count : ℕ) (controller : Controller) (stream : Stream) where
+  pub receive-update-answer : (n : ℕ) → cond (updateWaits stream) stepDone notAllowed ≡ answerOf (decide (receiveUpdateRule n) (receiverOf count controller stream))
   unfolding receiveUpdateRule
-  receive-update-answer n = allowed-answer (receiveUpdateRule n) (receiverOf count node stream) refl refl refl
+  receive-update-answer n = allowed-answer (receiveUpdateRule n) (receiverOf count controller stream) refl refl refl
 
-  pub receive-write-answer : cond (writeWaits stream) stepDone notAllowed ≡ answerOf (decide receiveWriteRule (receiverOf count node stream))
+  pub receive-write-answer : cond (writeWaits stream) stepDone notAllowed ≡ answerOf (decide receiveWriteRule (receiverOf count controller stream))
   unfolding receiveWriteRule
-  receive-write-answer = allowed-answer receiveWriteRule (receiverOf count node stream) refl refl refl
+  receive-write-answer = allowed-answer receiveWriteRule (receiverOf count controller stream) refl refl refl
 
 module _ (count : ℕ) (running : Bool) (streams : List Stream) (claims : Claims) where
   pub shutdown-answer : cond running stepDone notAllowed ≡ answerOf (decide shutdownRule (powerOf count running streams claims))
@@ -59,9 +59,9 @@ module _ (count : ℕ) (running : Bool) (streams : List Stream) (claims : Claims
 
 -- ---- a step that sends: room for one request more
 
-module _ (count : ℕ) (node : Node) (stream : Stream) (o : OrderedStream stream) where
+module _ (count : ℕ) (controller : Controller) (stream : Stream) (o : OrderedStream stream) where
   abbrev v : Sender
-  v = senderOf count node stream
+  v = senderOf count controller stream
 
   send-answer : (r : Rule Sender Sent) → r .termLeft v ≡ true → r .historyLeft v ≡ true → r .queuesLeft v ≡ room (v .requests)
       → sendAnswer (r .allowed v) (leb queueLength (stream .requests .len)) ≡ answerOf (decide r v)
@@ -71,15 +71,15 @@ module _ (count : ℕ) (node : Node) (stream : Stream) (o : OrderedStream stream
       let f : room (holdRequests (stream .requests)) ≡ not full = room-held noRequest packRequest holdRequest (requestsQueue (stream .requests)) (o .requests) in
       rw (t, h, q, f) (go (r .allowed v) full)
     where
-      go : (allowed full : Bool) → sendAnswer allowed full ≡ answerOf (need allowed notAllowed (need true termsSpent (need true historyFull (need (not full) queueFull (done stepDone (r .effect v))))))
+      go : (allowed full : Bool) → sendAnswer allowed full ≡ answerOf (need allowed notAllowed (need true termLimit (need true historyFull (need (not full) queueFull (done stepDone (r .effect v))))))
       go true true = refl
       go true false = refl
       go false full = refl
 
-  pub send-update-answer : (n : ℕ) → sendAnswer (sendUpdateRule n .allowed (senderOf count node stream)) (leb queueLength (stream .requests .len)) ≡ answerOf (decide (sendUpdateRule n) (senderOf count node stream))
+  pub send-update-answer : (n : ℕ) → sendAnswer (sendUpdateRule n .allowed (senderOf count controller stream)) (leb queueLength (stream .requests .len)) ≡ answerOf (decide (sendUpdateRule n) (senderOf count controller stream))
   unfolding sendUpdateRule
   send-update-answer n = send-answer (sendUpdateRule n) refl refl refl
 
-  pub send-write-answer : (n : ℕ) → sendAnswer (sendWriteRule n .allowed (senderOf count node stream)) (leb queueLength (stream .requests .len)) ≡ answerOf (decide (sendWriteRule n) (senderOf count node stream))
+  pub send-write-answer : (n : ℕ) → sendAnswer (sendWriteRule n .allowed (senderOf count controller stream)) (leb queueLength (stream .requests .len)) ≡ answerOf (decide (sendWriteRule n) (senderOf count controller stream))
   unfolding sendWriteRule
   send-write-answer n = send-answer (sendWriteRule n) refl refl refl

@@ -6,50 +6,51 @@ use mathlib.Core.List.{List}
 use lib.Dec.{leb}
 use Rattle.rules.specs.Codes.{stepDone}
 use Rattle.rules.specs.Limits.{queueLength}
-use Rattle.rules.specs.Rules.{closeRule, handleUpdateRule}
+use Rattle.rules.specs.Rules.{closeRule, handleUpdateRule, join, leave, sendUpdate, receiveUpdate, sendWrite, close, handleUpdate, handleWrite}
+use Rattle.rules.specs.Step.{numberOf}
 use Rattle.parts.specs.declared.Mastership.{Mastership}
-use Rattle.state.specs.Order.{OrderedNode, OrderedStream, OrderedWire}
-use Rattle.state.specs.declared.Node.{Node}
+use Rattle.state.specs.Order.{OrderedController, OrderedStream, OrderedBoard}
+use Rattle.state.specs.declared.Controller.{Controller}
 use Rattle.state.specs.declared.Stream.{Stream}
 use Rattle.state.specs.declared.Claims.{Claims}
 use Rattle.service.specs.Asks.{Joins, Leaving}
 use Rattle.nodes.specs.Waiting.{Waits}
 use Rattle.streams.specs.Asks.{IsNode}
-use Rattle.switch.specs.Asks.{AtWire, Tells}
+use Rattle.switch.specs.Asks.{AtBoard, Tells}
 use Rattle.writing.specs.Asks.{CanWrite}
-use Rattle.asks.specs.Classes.{barrier}
-use Rattle.asks.specs.Kinds.{RowKind, DeskKind, WireKind}
+use Rattle.asks.specs.Groups.{existence}
+use Rattle.asks.specs.Kinds.{RowKind, DeskKind, BoardKind}
 use Rattle.asks.specs.declared.Ask.{Ask}
 
 -- A node and its stream, both in order.
-pub record RowAsks (a : Ask) (node : Node) (stream : Stream) : Type 0 where
+pub record RowAsks (a : Ask) (controller : Controller) (stream : Stream) : Type 0 where
   pub kind : RowKind (a .kind)
-  pub within : IsNode (a .count) (a .number)
-  pub ordered-node : OrderedNode node
+  pub within : IsNode (a .count) (a .node)
+  pub ordered-controller : OrderedController controller
   pub ordered-stream : OrderedStream stream
 
 -- The same, where the answer is 0, with what the answer shows.
-pub record RowGoes (a : Ask) (node : Node) (stream : Stream) (claims : Claims) : Type 0 where
-  pub asks : RowAsks a node stream
-  pub roomy : (a .kind ≡ 4) ⊎ (a .kind ≡ 6) → leb queueLength (stream .requests .len) ≡ false
-  pub waits : a .kind ≡ 5 → Waits stream
-  pub can-write : a .kind ≡ 11 → CanWrite (a .count) (a .number) stream claims
+pub record RowGoes (a : Ask) (controller : Controller) (stream : Stream) (claims : Claims) : Type 0 where
+  pub asks : RowAsks a controller stream
+  pub roomy : (a .kind ≡ numberOf sendUpdate) ⊎ (a .kind ≡ numberOf sendWrite) → leb queueLength (stream .requests .len) ≡ false
+  pub waits : a .kind ≡ numberOf receiveUpdate → Waits stream
+  pub can-write : a .kind ≡ numberOf handleWrite → CanWrite (a .count) (a .node) stream claims
 
 -- A service that a node joins or leaves, where the answer is 0.
 pub record DeskGoes (a : Ask) (service : Mastership) : Type 0 where
   pub kind : DeskKind (a .kind)
-  pub joins : a .kind ≡ 1 → Joins service
-  pub leaving : a .kind ≡ 2 → Leaving service (a .number)
+  pub joins : a .kind ≡ numberOf join → Joins service
+  pub leaving : a .kind ≡ numberOf leave → Leaving service (a .node)
 
 -- The streams and what the switch holds, in order; one of the nodes where the kind calls for one.
-pub record WireAsks (a : Ask) (streams : List Stream) (claims : Claims) : Type 0 where
-  pub wire : OrderedWire (a .count) streams claims
-  pub kind : barrier a ≡ stepDone → WireKind (a .kind)
-  pub within : barrier a ≡ stepDone → (a .kind ≡ 9) ⊎ (a .kind ≡ 10) → AtWire (a .count) (a .number) streams claims
+pub record BoardAsks (a : Ask) (streams : List Stream) (claims : Claims) : Type 0 where
+  pub board : OrderedBoard (a .count) streams claims
+  pub kind : existence a ≡ stepDone → BoardKind (a .kind)
+  pub within : existence a ≡ stepDone → (a .kind ≡ numberOf close) ⊎ (a .kind ≡ numberOf handleUpdate) → AtBoard (a .count) (a .node) streams claims
 
 -- The same, where the answer is 0.
-pub record WireGoes (a : Ask) (streams : List Stream) (claims : Claims) : Type 0 where
-  pub wire : OrderedWire (a .count) streams claims
-  pub kind : WireKind (a .kind)
-  pub closes : a .kind ≡ 9 → Tells closeRule (a .count) (a .number) streams claims
-  pub updates : a .kind ≡ 10 → Tells handleUpdateRule (a .count) (a .number) streams claims
+pub record BoardGoes (a : Ask) (streams : List Stream) (claims : Claims) : Type 0 where
+  pub board : OrderedBoard (a .count) streams claims
+  pub kind : BoardKind (a .kind)
+  pub closes : a .kind ≡ numberOf close → Tells closeRule (a .count) (a .node) streams claims
+  pub updates : a .kind ≡ numberOf handleUpdate → Tells handleUpdateRule (a .count) (a .node) streams claims

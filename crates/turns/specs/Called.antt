@@ -20,7 +20,7 @@ use Rattle.asks.specs.declared.Ask.{Ask}
 
 -- What is asked of a body.
 abbrev pub askOf : Body → ℕ → ℕ → Ask
-askOf b k n = record { count = b .count; running = b .running; kind = k; number = n }
+askOf b k n = record { count = b .count; running = b .running; kind = k; node = n }
 
 module _ (b : Body) (n : ℕ) (history : List S.Write) (k : ℕ) (of : Kind) (is : kindOf k ≡ some of) (calls : called (classOf of) (b .count) n ≡ true) where
   abbrev s : S.State

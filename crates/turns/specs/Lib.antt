@@ -10,4 +10,4 @@ pub mod Switch
 pub mod Called
 pub mod RowTurns
 pub mod DeskTurns
-pub mod WireTurns
+pub mod BoardTurns

@@ -21,49 +21,49 @@ use Rattle.laws.specs.Answered.{Passes}
 use Rattle.seqs.specs.Arrays.{column}
 use Rattle.seqs.specs.Columns.{column-at}
 use Rattle.parts.specs.Hold.{holdResponses}
-use Rattle.state.specs.Hold.{responsesAt, holdCore, holdWire}
-use Rattle.state.specs.Order.{OrderedNode, OrderedStream, pastNode, pastStream}
+use Rattle.state.specs.Hold.{responsesAt, holdCore, holdBoard}
+use Rattle.state.specs.Order.{OrderedController, OrderedStream, pastController, pastStream}
 use Rattle.state.specs.Reads.{answerOf, inboxOf, senderOf, receiverOf}
 use Rattle.state.specs.Stores.{storeInbox, storeSent, storeSays, storeReceived}
-use Rattle.state.specs.declared.Node.{Node}
+use Rattle.state.specs.declared.Controller.{Controller}
 use Rattle.state.specs.declared.Stream.{Stream}
 use Rattle.state.specs.declared.Body.{Body}
 use Rattle.state.specs.declared.Moved.{Moved}
 use Rattle.nodes.specs.Waiting.{sendAnswer, updateWaits, writeWaits, Waits, received}
 use Rattle.moves.specs.Bodies.{stateOf, Leaves}
-use Rattle.moves.specs.Sets.{withDesk, withNode, withStream}
-use Rattle.moves.specs.Gets.{nodeOf, streamOf, inbox-read, sender-read, receiver-read}
-use Rattle.moves.specs.Stored.{fits-core, in-order-nodes, in-order-wire, inbox-stored-at, sent-stored-at, received-stored-at}
+use Rattle.moves.specs.Sets.{withDesk, withController, withStream}
+use Rattle.moves.specs.Gets.{controllerOf, streamOf, inbox-read, sender-read, receiver-read}
+use Rattle.moves.specs.Stored.{fits-core, in-order-controllers, in-order-board, inbox-stored-at, sent-stored-at, received-stored-at}
 use Rattle.moves.specs.Acts.{plain, done-at, passes}
 use Rattle.turns.specs.At.{At, row-in, leaves-as}
 
 module _ (b : Body) (n : ℕ) (a : At b n) where
-  pub node-ordered : OrderedNode (nodeOf b n)
-  node-ordered = in-order-nodes b (a .ready) .rows (n - 1) (row-in b n a)
+  pub controller-ordered : OrderedController (controllerOf b n)
+  controller-ordered = in-order-controllers b (a .ready) .rows (n - 1) (row-in b n a)
 
   pub stream-ordered : OrderedStream (streamOf b n)
-  stream-ordered = in-order-wire b (a .ready) .rows (n - 1) (row-in b n a)
+  stream-ordered = in-order-board b (a .ready) .rows (n - 1) (row-in b n a)
 
   module _ (history : List S.Write) where
     -- ---- 3 Learn
 
-    pub learn-yes : learnRule .allowed (inboxOf (nodeOf b n)) ≡ true → (x : Node) → x ≡ storeInbox (learnRule .effect (inboxOf (nodeOf b n))) (nodeOf b n)
-        → (m : Moved) → m ≡ plain stepDone (withNode n x b) → Leaves n history (act learns n (stateOf b history)) m
+    pub learn-yes : learnRule .allowed (inboxOf (controllerOf b n)) ≡ true → (x : Controller) → x ≡ storeInbox (learnRule .effect (inboxOf (controllerOf b n))) (controllerOf b n)
+        → (m : Moved) → m ≡ plain stepDone (withController n x b) → Leaves n history (act learns n (stateOf b history)) m
     unfolding learnRule
-    learn-yes h x f m e = let v = inboxOf (nodeOf b n) in
-        leaves-as n history _ (plain stepDone (withNode n x b)) m e
+    learn-yes h x f m e = let v = inboxOf (controllerOf b n) in
+        leaves-as n history _ (plain stepDone (withController n x b)) m e
         (done-at (learnPart n) learnRule n b (a .ready) history v (inbox-read b n (row-in b n a) history) (record { allowed = rw h tt; term = tt; history = tt; queues = tt })
-        (plain stepDone (withNode n x b)) refl
-        (ap (λ (y : Node). withNode n y b) f ∙ inbox-stored-at b (a .ready) history n (row-in b n a) (learnRule .effect v)) (sym (append-nil history)))
+        (plain stepDone (withController n x b)) refl
+        (ap (λ (y : Controller). withController n y b) f ∙ inbox-stored-at b (a .ready) history n (row-in b n a) (learnRule .effect v)) (sym (append-nil history)))
 
     -- ---- 4, 6 Send: for either rule
 
     module _ (r : Rule Sender Sent) where
       abbrev v : Sender
-      v = senderOf (b .count) (nodeOf b n) (streamOf b n)
+      v = senderOf (b .count) (controllerOf b n) (streamOf b n)
 
-      pub send-yes : answerOf (decide r (senderOf (b .count) (nodeOf b n) (streamOf b n))) ≡ stepDone
-          → (x : Stream) → x ≡ storeSent (r .effect (senderOf (b .count) (nodeOf b n) (streamOf b n))) (streamOf b n)
+      pub send-yes : answerOf (decide r (senderOf (b .count) (controllerOf b n) (streamOf b n))) ≡ stepDone
+          → (x : Stream) → x ≡ storeSent (r .effect (senderOf (b .count) (controllerOf b n) (streamOf b n))) (streamOf b n)
           → (m : Moved) → m ≡ plain stepDone (withStream n x b) → Leaves n history (via (sendPart n) (decide r) (stateOf b history)) m
       send-yes h x f m e =
           leaves-as n history _ (plain stepDone (withStream n x b)) m e
@@ -74,18 +74,18 @@ module _ (b : Body) (n : ℕ) (a : At b n) where
 
     module _ (r : Rule Receiver Received) where
       abbrev u : Receiver
-      u = receiverOf (b .count) (nodeOf b n) (streamOf b n)
+      u = receiverOf (b .count) (controllerOf b n) (streamOf b n)
 
-      pub receive-yes : Passes r (receiverOf (b .count) (nodeOf b n) (streamOf b n)) → (x : Node) → x ≡ storeSays (r .effect (receiverOf (b .count) (nodeOf b n) (streamOf b n))) (nodeOf b n)
-          → (y : Stream) → y ≡ storeReceived (r .effect (receiverOf (b .count) (nodeOf b n) (streamOf b n))) (streamOf b n) → (m : Moved)
-          → m ≡ plain stepDone (withNode n x (withStream n y b)) → Leaves n history (via (receivePart n) (decide r) (stateOf b history)) m
+      pub receive-yes : Passes r (receiverOf (b .count) (controllerOf b n) (streamOf b n)) → (x : Controller) → x ≡ storeSays (r .effect (receiverOf (b .count) (controllerOf b n) (streamOf b n))) (controllerOf b n)
+          → (y : Stream) → y ≡ storeReceived (r .effect (receiverOf (b .count) (controllerOf b n) (streamOf b n))) (streamOf b n) → (m : Moved)
+          → m ≡ plain stepDone (withController n x (withStream n y b)) → Leaves n history (via (receivePart n) (decide r) (stateOf b history)) m
       receive-yes p x f y g m e =
-          leaves-as n history _ (plain stepDone (withNode n x (withStream n y b))) m e
-          (done-at (receivePart n) r n b (a .ready) history u (receiver-read b n (row-in b n a) history) p (plain stepDone (withNode n x (withStream n y b))) refl
-          (ap₂ (λ (q : Node) (t : Stream). withNode n q (withStream n t b)) f g ∙ received-stored-at b (a .ready) history n (row-in b n a) (r .effect u)) (sym (append-nil history)))
+          leaves-as n history _ (plain stepDone (withController n x (withStream n y b))) m e
+          (done-at (receivePart n) r n b (a .ready) history u (receiver-read b n (row-in b n a) history) p (plain stepDone (withController n x (withStream n y b))) refl
+          (ap₂ (λ (q : Controller) (t : Stream). withController n q (withStream n t b)) f g ∙ received-stored-at b (a .ready) history n (row-in b n a) (r .effect u)) (sym (append-nil history)))
 
-    pub receive-update-yes : updateWaits (streamOf b n) ≡ true → (x : Node) → x ≡ storeSays (receiveUpdateRule n .effect (receiverOf (b .count) (nodeOf b n) (streamOf b n))) (nodeOf b n)
-        → (y : Stream) → y ≡ received (streamOf b n) → (m : Moved) → m ≡ plain stepDone (withNode n x (withStream n y b)) → Leaves n history (act receiveUpdate n (stateOf b history)) m
+    pub receive-update-yes : updateWaits (streamOf b n) ≡ true → (x : Controller) → x ≡ storeSays (receiveUpdateRule n .effect (receiverOf (b .count) (controllerOf b n) (streamOf b n))) (controllerOf b n)
+        → (y : Stream) → y ≡ received (streamOf b n) → (m : Moved) → m ≡ plain stepDone (withController n x (withStream n y b)) → Leaves n history (act receiveUpdate n (stateOf b history)) m
     unfolding receiveUpdateRule
     receive-update-yes h x f y g m e = receive-yes (receiveUpdateRule n) (record { allowed = rw h tt; term = tt; history = tt; queues = tt }) x f y g m e
 
@@ -93,9 +93,9 @@ module _ (b : Body) (n : ℕ) (a : At b n) where
         → Leaves n history (act receiveWrite n (stateOf b history)) m
     unfolding receiveWriteRule
     receive-write-yes h y g m e =
-        let same : withStream n y b ≡ withNode n (nodeOf b n) (withStream n y b) =
-        ap (λ (l : List Node). withDesk (b .core .service) l (withStream n y b)) (sym (set-getD (b .core .nodes) (n - 1) pastNode)) in
-        receive-yes receiveWriteRule (record { allowed = rw h tt; term = tt; history = tt; queues = tt }) (nodeOf b n) refl y g m (e ∙ ap (plain stepDone) same)
+        let same : withStream n y b ≡ withController n (controllerOf b n) (withStream n y b) =
+        ap (λ (l : List Controller). withDesk (b .core .service) l (withStream n y b)) (sym (set-getD (b .core .controllers) (n - 1) pastController)) in
+        receive-yes receiveWriteRule (record { allowed = rw h tt; term = tt; history = tt; queues = tt }) (controllerOf b n) refl y g m (e ∙ ap (plain stepDone) same)
 
 -- ---- the answer of a step that sends
 
@@ -121,7 +121,7 @@ module _ (b : Body) (n : ℕ) (a : At b n) where
   waits-not-empty o false u h = refl
 
   pub waits : updateWaits (streamOf b n) ≡ true → Waits (streamOf b n)
-  unfolding holdCore holdWire
+  unfolding holdCore holdBoard
   waits h =
       let q = holdResponses (streamOf b n .responses) in
       let some = waits-not-empty (streamOf b n .opened) (empty q) (isUpdate (first R.noResponse q .message)) h in
@@ -130,5 +130,5 @@ module _ (b : Body) (n : ℕ) (a : At b n) where
       record {
         ordered = stream-ordered b n a;
         some = some;
-        small = small (r .message) (r .status) (r .id) (queue-first ResponseFits R.noResponse q (rw some tt) (rw e at (fits-core b (a .ready) .wire .streams (n - 1) .responses-fit)));
+        small = small (r .message) (r .status) (r .id) (queue-first ResponseFits R.noResponse q (rw some tt) (rw e at (fits-core b (a .ready) .board .streams (n - 1) .responses-fit)));
       }

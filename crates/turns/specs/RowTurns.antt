@@ -14,23 +14,23 @@ use Rattle.rules.specs.Part.{decide}
 use Rattle.rules.specs.Rules as R
 use Rattle.rules.specs.Parts.{Serving}
 use Rattle.rules.specs.Step.{kindOf, act, ofKind}
-use Rattle.state.specs.Order.{pastNode}
+use Rattle.state.specs.Order.{pastController}
 use Rattle.state.specs.Reads.{answerOf, inboxOf, senderOf, servedOf}
 use Rattle.state.specs.Stores.{storeInbox}
-use Rattle.state.specs.declared.Node.{Node}
+use Rattle.state.specs.declared.Controller.{Controller}
 use Rattle.state.specs.declared.Stream.{Stream}
 use Rattle.state.specs.declared.Body.{Body}
 use Rattle.state.specs.declared.Moved.{Moved}
 use Rattle.moves.specs.Bodies.{stateOf, Leaves}
-use Rattle.moves.specs.Sets.{withDesk, withNode, withStream, withLast}
-use Rattle.moves.specs.Gets.{nodeOf, streamOf, inbox-read, sender-read, receiver-read, linked-read, served-read}
+use Rattle.moves.specs.Sets.{withDesk, withController, withStream, withLast}
+use Rattle.moves.specs.Gets.{controllerOf, streamOf, inbox-read, sender-read, receiver-read, linked-read, served-read}
 use Rattle.moves.specs.Acts.{plain, passes}
 use Rattle.writing.specs.Handled.{storeHandled}
 use Rattle.writing.specs.declared.Handled.{Handled}
 use Rattle.writing.proofs.Callers.{write-can, write-effect, acceptedOf, accepted-back}
 use Rattle.asks.specs.Kinds.{RowKind, learns, sendUpdate, receiveUpdate, sendWrite, receiveWrite, connect, handleWrite, inside}
 use Rattle.turns.specs.At.{At, row-in}
-use Rattle.turns.specs.Nodes.{node-ordered, stream-ordered, learn-yes, send-yes, receive-update-yes, receive-write-yes, sends, waits}
+use Rattle.turns.specs.Nodes.{controller-ordered, stream-ordered, learn-yes, send-yes, receive-update-yes, receive-write-yes, sends, waits}
 use Rattle.turns.specs.Switch.{at-stream, link-yes, serve-yes}
 use Rattle.turns.specs.declared.Row.{Row}
 use Rattle.turns.specs.Turns.{rowAnswer, quiet, rowAfter}
@@ -45,7 +45,7 @@ rowBody b n r = record {
   running = b .running;
   core = record {
     service = b .core .service;
-    nodes = set (b .core .nodes) (n - 1) (record { events = nodeOf b n .events; learned = nodeOf b n .learned; says = r .says });
+    controllers = set (b .core .controllers) (n - 1) (record { events = controllerOf b n .events; learned = controllerOf b n .learned; says = r .says });
     streams = set (b .core .streams) (n - 1) (r .stream);
     claims = r .claims;
   };
@@ -64,18 +64,18 @@ module _ (b : Body) (n : ℕ) (a : At b n) where
 
   -- The answer of kind k at the node, on the rows that the body holds.
   abbrev pub answerAt : ℕ → ℕ → ℕ
-  answerAt writes k = rowAnswer (askOf b k n) writes (nodeOf b n) (streamOf b n) (b .core .claims)
+  answerAt writes k = rowAnswer (askOf b k n) writes (controllerOf b n) (streamOf b n) (b .core .claims)
 
-  pub row-asks : (k : ℕ) → RowKind k → RowAsks (askOf b k n) (nodeOf b n) (streamOf b n)
+  pub row-asks : (k : ℕ) → RowKind k → RowAsks (askOf b k n) (controllerOf b n) (streamOf b n)
   row-asks k r = record {
     kind = r;
     within = record { few = a .few; from = a .low; upto = a .high };
-    ordered-node = node-ordered b n a;
+    ordered-controller = controller-ordered b n a;
     ordered-stream = stream-ordered b n a;
   }
 
   pub row-answered : (history : List S.Write) (k : ℕ) → RowKind k
-      → rowAnswer (askOf b k n) (length history) (nodeOf b n) (streamOf b n) (b .core .claims) ≡ ofKind (kindOf k) n (stateOf b history) .answer
+      → rowAnswer (askOf b k n) (length history) (controllerOf b n) (streamOf b n) (b .core .claims) ≡ ofKind (kindOf k) n (stateOf b history) .answer
   row-answered history _ learns = called-answer b n history 3 R.learns refl is-node _ (inbox-read b n (row-in b n a) history)
   row-answered history _ sendUpdate = called-answer b n history 4 R.sendUpdate refl is-node _ (sender-read b n (row-in b n a) history)
   row-answered history _ receiveUpdate = called-answer b n history 5 R.receiveUpdate refl is-node _ (receiver-read b n (row-in b n a) history)
@@ -86,31 +86,31 @@ module _ (b : Body) (n : ℕ) (a : At b n) where
 
   -- ---- where the answer is 0
 
-  pub row-goes : (writes k : ℕ) → RowKind k → rowAnswer (askOf b k n) writes (nodeOf b n) (streamOf b n) (b .core .claims) ≡ stepDone → RowGoes (askOf b k n) (nodeOf b n) (streamOf b n) (b .core .claims)
+  pub row-goes : (writes k : ℕ) → RowKind k → rowAnswer (askOf b k n) writes (controllerOf b n) (streamOf b n) (b .core .claims) ≡ stepDone → RowGoes (askOf b k n) (controllerOf b n) (streamOf b n) (b .core .claims)
   row-goes writes k r z = record {
     asks = row-asks k r;
     roomy = λ e. ⊎-elim
-        (λ (f : k ≡ 4). sends (R.sendUpdateRule n .allowed (senderOf (b .count) (nodeOf b n) (streamOf b n))) _ (send-update-answer (b .count) (nodeOf b n) (streamOf b n) (stream-ordered b n a) n ∙ at 4 f))
-        (λ (f : k ≡ 6). sends (R.sendWriteRule n .allowed (senderOf (b .count) (nodeOf b n) (streamOf b n))) _ (send-write-answer (b .count) (nodeOf b n) (streamOf b n) (stream-ordered b n a) n ∙ at 6 f)) e;
-    waits = λ f. waits b n a (is-true _ (receive-update-answer (b .count) (nodeOf b n) (streamOf b n) n ∙ at 5 f));
+        (λ (f : k ≡ 4). sends (R.sendUpdateRule n .allowed (senderOf (b .count) (controllerOf b n) (streamOf b n))) _ (send-update-answer (b .count) (controllerOf b n) (streamOf b n) (stream-ordered b n a) n ∙ at 4 f))
+        (λ (f : k ≡ 6). sends (R.sendWriteRule n .allowed (senderOf (b .count) (controllerOf b n) (streamOf b n))) _ (send-write-answer (b .count) (controllerOf b n) (streamOf b n) (stream-ordered b n a) n ∙ at 6 f)) e;
+    waits = λ f. waits b n a (is-true _ (receive-update-answer (b .count) (controllerOf b n) (streamOf b n) n ∙ at 5 f));
     can-write = λ f. write-can (b .count) n (b .running) (streamOf b n) (b .core .claims) writes (at-stream b n a) (at 11 f);
   }
     where
       at : (j : ℕ) → k ≡ j → answerAt writes j ≡ stepDone
       at j e = subst (λ (i : ℕ). answerAt writes i ≡ stepDone) e z
 
-  same-nodes : set (b .core .nodes) (n - 1) (nodeOf b n) ≡ b .core .nodes
-  same-nodes = set-getD (b .core .nodes) (n - 1) pastNode
+  same-controllers : set (b .core .controllers) (n - 1) (controllerOf b n) ≡ b .core .controllers
+  same-controllers = set-getD (b .core .controllers) (n - 1) pastController
 
-  quiet-moved : (k : ℕ) (x : Stream) → rowMoved b n (quiet (askOf b k n) (nodeOf b n) (b .core .claims) x) ≡ plain stepDone (withStream n x b)
-  quiet-moved k x = ap (λ (l : List Node). plain stepDone (withDesk (b .core .service) l (withStream n x b))) same-nodes
+  quiet-moved : (k : ℕ) (x : Stream) → rowMoved b n (quiet (askOf b k n) (controllerOf b n) (b .core .claims) x) ≡ plain stepDone (withStream n x b)
+  quiet-moved k x = ap (λ (l : List Controller). plain stepDone (withDesk (b .core .service) l (withStream n x b))) same-controllers
 
   module _ (history : List S.Write) where
-    pub learn-leaves : answerOf (decide R.learnRule (inboxOf (nodeOf b n))) ≡ stepDone → (x : Node) → x ≡ storeInbox (R.learnRule .effect (inboxOf (nodeOf b n))) (nodeOf b n)
-        → Leaves n history (ofKind (kindOf 3) n (stateOf b history)) (plain stepDone (withNode n x b))
-    learn-leaves z x e = called-leaves b n history 3 R.learns refl is-node (learn-yes b n a history (is-true _ (learn-answer (nodeOf b n) ∙ z)) x e _ refl)
+    pub learn-leaves : answerOf (decide R.learnRule (inboxOf (controllerOf b n))) ≡ stepDone → (x : Controller) → x ≡ storeInbox (R.learnRule .effect (inboxOf (controllerOf b n))) (controllerOf b n)
+        → Leaves n history (ofKind (kindOf 3) n (stateOf b history)) (plain stepDone (withController n x b))
+    learn-leaves z x e = called-leaves b n history 3 R.learns refl is-node (learn-yes b n a history (is-true _ (learn-answer (controllerOf b n) ∙ z)) x e _ refl)
 
-    write-leaves : answerAt (length history) 11 ≡ stepDone → Leaves n history (act R.handleWrite n (stateOf b history)) (rowMoved b n (rowAfter (askOf b 11 n) (nodeOf b n) (streamOf b n) (b .core .claims)))
+    write-leaves : answerAt (length history) 11 ≡ stepDone → Leaves n history (act R.handleWrite n (stateOf b history)) (rowMoved b n (rowAfter (askOf b 11 n) (controllerOf b n) (streamOf b n) (b .core .claims)))
     unfolding storeHandled
     write-leaves z =
         let rule = R.handleWriteRule n in
@@ -118,24 +118,24 @@ module _ (b : Body) (n : ℕ) (a : At b n) where
         let done : storeHandled (rule .effect (servedOf (b .count) n true (streamOf b n) (b .core .claims) 0)) (streamOf b n) ≡ storeHandled (rule .effect v) (streamOf b n) =
         ap (λ (w : Serving). storeHandled w (streamOf b n)) (write-effect (b .count) n (b .running) (streamOf b n) (b .core .claims) (length history)) in
         serve-yes b n a history rule (passes rule v z) _ refl
-        (ap (λ (l : List Node). withDesk (b .core .service) l (rowBody b n (rowAfter (askOf b 11 n) (nodeOf b n) (streamOf b n) (b .core .claims)))) same-nodes
+        (ap (λ (l : List Controller). withDesk (b .core .service) l (rowBody b n (rowAfter (askOf b 11 n) (controllerOf b n) (streamOf b n) (b .core .claims)))) same-controllers
         ∙ ap (λ (h : Handled). withLast (h .last) (withStream n (h .stream) b)) done)
         (sym (accepted-back n v (streamOf b n)) ∙ ap (acceptedOf n) (sym done))
 
-    pub row-leaves : (k : ℕ) → RowKind k → k ≢ 3 → rowAnswer (askOf b k n) (length history) (nodeOf b n) (streamOf b n) (b .core .claims) ≡ stepDone
-        → Leaves n history (ofKind (kindOf k) n (stateOf b history)) (rowMoved b n (rowAfter (askOf b k n) (nodeOf b n) (streamOf b n) (b .core .claims)))
+    pub row-leaves : (k : ℕ) → RowKind k → k ≢ 3 → rowAnswer (askOf b k n) (length history) (controllerOf b n) (streamOf b n) (b .core .claims) ≡ stepDone
+        → Leaves n history (ofKind (kindOf k) n (stateOf b history)) (rowMoved b n (rowAfter (askOf b k n) (controllerOf b n) (streamOf b n) (b .core .claims)))
     unfolding R.connectRule
     row-leaves _ learns h z = absurd (h refl)
     row-leaves _ sendUpdate h z = called-leaves b n history 4 R.sendUpdate refl is-node (send-yes b n a history (R.sendUpdateRule n) z _ refl _ (quiet-moved 4 _))
     row-leaves _ receiveUpdate h z = called-leaves b n history 5 R.receiveUpdate refl is-node
-        (receive-update-yes b n a history (is-true _ (receive-update-answer (b .count) (nodeOf b n) (streamOf b n) n ∙ z)) _ refl _ refl _ refl)
+        (receive-update-yes b n a history (is-true _ (receive-update-answer (b .count) (controllerOf b n) (streamOf b n) n ∙ z)) _ refl _ refl _ refl)
     row-leaves _ sendWrite h z = called-leaves b n history 6 R.sendWrite refl is-node (send-yes b n a history (R.sendWriteRule n) z _ refl _ (quiet-moved 6 _))
     row-leaves _ receiveWrite h z = called-leaves b n history 7 R.receiveWrite refl is-node
-        (receive-write-yes b n a history (is-true _ (receive-write-answer (b .count) (nodeOf b n) (streamOf b n) ∙ z)) _ refl _ (quiet-moved 7 _))
+        (receive-write-yes b n a history (is-true _ (receive-write-answer (b .count) (controllerOf b n) (streamOf b n) ∙ z)) _ refl _ (quiet-moved 7 _))
     row-leaves _ connect h z = called-leaves b n history 8 R.connect refl is-node (link-yes b n a history R.connectRule z _ refl _ (quiet-moved 8 _))
     row-leaves _ handleWrite h z = called-leaves b n history 11 R.handleWrite refl is-node (write-leaves z)
 
-  pub row-entry : (k : ℕ) → RowKind k → k ≢ 3 → rowAfter (askOf b k n) (nodeOf b n) (streamOf b n) (b .core .claims) .entry .node ≡ n
+  pub row-entry : (k : ℕ) → RowKind k → k ≢ 3 → rowAfter (askOf b k n) (controllerOf b n) (streamOf b n) (b .core .claims) .entry .node ≡ n
   row-entry _ learns h = absurd (h refl)
   row-entry _ sendUpdate h = refl
   row-entry _ receiveUpdate h = refl

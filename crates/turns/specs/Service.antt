@@ -7,7 +7,7 @@ use native.Mathlib.Omega.{arith}
 use lib.ListN.{length, length-append}
 use borrow.Author.Tests.{ne-eqb}
 use Rattle.rules.specs.Codes.{stepDone}
-use Rattle.rules.specs.Limits.{topTerm}
+use Rattle.rules.specs.Limits.{mostBackups, topTerm}
 use Rattle.rules.specs.State as S
 use Rattle.rules.specs.Queues.{push, roomAll}
 use Rattle.rules.specs.Ids.{named}
@@ -25,20 +25,20 @@ use Rattle.parts.specs.declared.Mastership.{Mastership}
 use Rattle.state.specs.Hold.{eventsAt, holdDesk, holdCore}
 use Rattle.state.specs.Reads.{answerOf}
 use Rattle.state.specs.Stores.{storeEvents}
-use Rattle.state.specs.declared.Node.{Node}
+use Rattle.state.specs.declared.Controller.{Controller}
 use Rattle.state.specs.declared.Body.{Body}
 use Rattle.state.specs.declared.Moved.{Moved}
 use Rattle.bridge.specs.InOrder.{service-short}
 use Rattle.service.specs.Asks.{Joins, Leaving}
 use Rattle.moves.specs.Bodies.{stateOf, Leaves}
 use Rattle.moves.specs.Sets.{withDesk}
-use Rattle.moves.specs.Stored.{fits-core, in-order-nodes, in-order-service, desk-stored}
+use Rattle.moves.specs.Stored.{fits-core, in-order-controllers, in-order-service, desk-stored}
 use Rattle.moves.specs.Acts.{plain, done-at, passes}
 use Rattle.turns.specs.At.{At, leaves-as}
 
 -- what the service and its nodes hold
 abbrev pub deskAt : Body → S.Desk
-deskAt b = holdDesk (b .count) (b .core .service) (b .core .nodes)
+deskAt b = holdDesk (b .count) (b .core .service) (b .core .controllers)
 
 service-term : (count : ℕ) (m : S.Mastership) → ServiceFits count m → m .term ≤ topTerm
 service-term count m (masterless e h t) = t
@@ -55,13 +55,13 @@ module _ (b : Body) (n : ℕ) (a : At b n) where
 
   -- where every test holds: the service's mastership, and all event queues
   service-yes : (r : Rule S.Desk S.Desk) (history : List S.Write) → Passes r (deskAt b)
-      → (x : Mastership) → x ≡ packMastership (r .effect (deskAt b) .service) → (l : List Node) → l ≡ storeEvents (r .effect (deskAt b) .events) (b .count) (b .core .nodes)
+      → (x : Mastership) → x ≡ packMastership (r .effect (deskAt b) .service) → (l : List Controller) → l ≡ storeEvents (r .effect (deskAt b) .events) (b .count) (b .core .controllers)
       → (m : Moved) → m ≡ plain stepDone (withDesk x l b) → Leaves n history (via servicePart (decide r) (stateOf b history)) m
   unfolding holdCore
   service-yes r history p x f l g m e =
       leaves-as n history _ (plain stepDone (withDesk x l b)) m e
       (done-at servicePart r n b (a .ready) history (deskAt b) refl p (plain stepDone (withDesk x l b)) refl
-      (ap₂ (λ (y : Mastership) (k : List Node). withDesk y k b) f g ∙ desk-stored b (a .ready) history (r .effect (deskAt b))) (sym (append-nil history)))
+      (ap₂ (λ (y : Mastership) (k : List Controller). withDesk y k b) f g ∙ desk-stored b (a .ready) history (r .effect (deskAt b))) (sym (append-nil history)))
 
   -- ---- 1 Join
 
@@ -81,7 +81,7 @@ module _ (b : Body) (n : ℕ) (a : At b n) where
       spare = λ h.
           let l = holdMastership (b .core .service) .backups in
           let s = service-short (b .count) (a .few) (joined n (holdMastership (b .core .service))) joined-service in
-          let k : length (push n l) ≤ 7 = simp (ne-eqb (b .core .service .master) 0 h) at s in
+          let k : length (push n l) ≤ mostBackups = simp (ne-eqb (b .core .service .master) 0 h) at s in
           let q = length-append l (n ∷ []) in
           omega arith;
     }
@@ -89,18 +89,18 @@ module _ (b : Body) (n : ℕ) (a : At b n) where
     pub join-written : (x : Mastership) → x ≡ packMastership (joined n (holdMastership (b .core .service))) → OrderedMastership x
     join-written x e = written b n a (joined n (holdMastership (b .core .service))) joined-service x e
 
-    pub join-room : roomAll (column eventsAt (b .count) (b .core .nodes)) ≡ true
+    pub join-room : roomAll (column eventsAt (b .count) (b .core .controllers)) ≡ true
     unfolding holdDesk joinRule
-    join-room = is-yes (roomAll (column eventsAt (b .count) (b .core .nodes))) .to (join-passes .queues)
+    join-room = is-yes (roomAll (column eventsAt (b .count) (b .core .controllers))) .to (join-passes .queues)
 
     pub join-yes : (history : List S.Write) (x : Mastership) → x ≡ packMastership (joined n (holdMastership (b .core .service)))
-        → (l : List Node) → l ≡ storeEvents (map (push (holdMastership x)) (column eventsAt (b .count) (b .core .nodes))) (b .count) (b .core .nodes)
+        → (l : List Controller) → l ≡ storeEvents (map (push (holdMastership x)) (column eventsAt (b .count) (b .core .controllers))) (b .count) (b .core .controllers)
         → (m : Moved) → m ≡ plain stepDone (withDesk x l b) → Leaves n history (via servicePart (decide (joinRule n)) (stateOf b history)) m
     unfolding joinRule posted holdDesk
     join-yes history x f l g m e =
         let h : holdMastership x ≡ joined n (holdMastership (b .core .service)) = ap holdMastership f ∙ mastership-back (joined n (holdMastership (b .core .service))) in
         service-yes (joinRule n) history join-passes x f l
-        (g ∙ ap (λ (y : S.Mastership). storeEvents (map (push y) (column eventsAt (b .count) (b .core .nodes))) (b .count) (b .core .nodes)) h) m e
+        (g ∙ ap (λ (y : S.Mastership). storeEvents (map (push y) (column eventsAt (b .count) (b .core .controllers))) (b .count) (b .core .controllers)) h) m e
 
   -- ---- 2 Leave
 
@@ -130,25 +130,25 @@ module _ (b : Body) (n : ℕ) (a : At b n) where
     pub leave-written : (x : Mastership) → x ≡ packMastership (left n (holdMastership (b .core .service))) → OrderedMastership x
     leave-written x e = written b n a (left n service) left-service x e
 
-    pub leave-room : handsOver n (holdMastership (b .core .service)) ≡ true → roomAll (column eventsAt (b .count) (b .core .nodes)) ≡ true
+    pub leave-room : handsOver n (holdMastership (b .core .service)) ≡ true → roomAll (column eventsAt (b .count) (b .core .controllers)) ≡ true
     unfolding holdDesk leaveRule
-    leave-room h = is-yes (roomAll (column eventsAt (b .count) (b .core .nodes))) .to (rw h at (leave-passes .queues))
+    leave-room h = is-yes (roomAll (column eventsAt (b .count) (b .core .controllers))) .to (rw h at (leave-passes .queues))
 
     pub leave-posts : handsOver n (holdMastership (b .core .service)) ≡ true → (history : List S.Write) (x : Mastership) → x ≡ packMastership (left n (holdMastership (b .core .service)))
-        → (l : List Node) → l ≡ storeEvents (map (push (holdMastership x)) (column eventsAt (b .count) (b .core .nodes))) (b .count) (b .core .nodes)
+        → (l : List Controller) → l ≡ storeEvents (map (push (holdMastership x)) (column eventsAt (b .count) (b .core .controllers))) (b .count) (b .core .controllers)
         → (m : Moved) → m ≡ plain stepDone (withDesk x l b) → Leaves n history (via servicePart (decide (leaveRule n)) (stateOf b history)) m
     unfolding leaveRule posted holdDesk
     leave-posts o history x f l g m e =
         let h : holdMastership x ≡ left n service = ap holdMastership f ∙ mastership-back (left n service) in
         let k : leaveRule n .effect (deskAt b) ≡ posted (left n service) (deskAt b) = simp o in
         service-yes (leaveRule n) history leave-passes x (f ∙ ap (λ (d : S.Desk). packMastership (d .service)) (sym k)) l
-        (g ∙ ap (λ (y : S.Mastership). storeEvents (map (push y) (column eventsAt (b .count) (b .core .nodes))) (b .count) (b .core .nodes)) h
-        ∙ ap (λ (d : S.Desk). storeEvents (d .events) (b .count) (b .core .nodes)) (sym k)) m e
+        (g ∙ ap (λ (y : S.Mastership). storeEvents (map (push y) (column eventsAt (b .count) (b .core .controllers))) (b .count) (b .core .controllers)) h
+        ∙ ap (λ (d : S.Desk). storeEvents (d .events) (b .count) (b .core .controllers)) (sym k)) m e
 
     pub leave-quiet : handsOver n (holdMastership (b .core .service)) ≡ false → (history : List S.Write) (x : Mastership) → x ≡ packMastership (left n (holdMastership (b .core .service)))
-        → (m : Moved) → m ≡ plain stepDone (withDesk x (b .core .nodes) b) → Leaves n history (via servicePart (decide (leaveRule n)) (stateOf b history)) m
+        → (m : Moved) → m ≡ plain stepDone (withDesk x (b .core .controllers) b) → Leaves n history (via servicePart (decide (leaveRule n)) (stateOf b history)) m
     unfolding leaveRule unposted holdDesk
     leave-quiet o history x f m e =
         let k : leaveRule n .effect (deskAt b) ≡ unposted (left n service) (deskAt b) = simp o in
-        service-yes (leaveRule n) history leave-passes x (f ∙ ap (λ (d : S.Desk). packMastership (d .service)) (sym k)) (b .core .nodes)
-        (sym (in-order-nodes b (a .ready) .same) ∙ ap (λ (d : S.Desk). storeEvents (d .events) (b .count) (b .core .nodes)) (sym k)) m e
+        service-yes (leaveRule n) history leave-passes x (f ∙ ap (λ (d : S.Desk). packMastership (d .service)) (sym k)) (b .core .controllers)
+        (sym (in-order-controllers b (a .ready) .same) ∙ ap (λ (d : S.Desk). storeEvents (d .events) (b .count) (b .core .controllers)) (sym k)) m e

@@ -11,19 +11,19 @@ use Rattle.rules.specs.Parts.{Linked, Told, Telling, Served, Serving, Power, li
 use Rattle.rules.specs.Rules.{shutdown, startup, shutdownRule, startupRule, cleared}
 use Rattle.rules.specs.Step.{act}
 use Rattle.laws.specs.Answered.{Passes}
-use Rattle.state.specs.Hold.{holdCore, holdWire}
+use Rattle.state.specs.Hold.{holdCore, holdBoard}
 use Rattle.state.specs.Reads.{answerOf, linkedOf, toldOf, servedOf, powerOf}
-use Rattle.state.specs.Stores.{storeOpen, storeTelling, storeServing, packWire}
+use Rattle.state.specs.Stores.{storeOpen, storeTelling, storeServing, packBoard}
 use Rattle.state.specs.declared.Stream.{Stream}
-use Rattle.state.specs.declared.Wire.{Wire}
+use Rattle.state.specs.declared.Board.{Board}
 use Rattle.state.specs.declared.Body.{Body}
 use Rattle.state.specs.declared.Moved.{Moved}
-use Rattle.switch.specs.Asks.{AtWire}
+use Rattle.switch.specs.Asks.{AtBoard}
 use Rattle.writing.specs.Asks.{AtStream}
 use Rattle.moves.specs.Bodies.{stateOf, acceptedIn, Ready, Leaves}
-use Rattle.moves.specs.Sets.{withWire, withStream, withLast}
+use Rattle.moves.specs.Sets.{withBoard, withStream, withLast}
 use Rattle.moves.specs.Gets.{streamOf, linked-read, served-read}
-use Rattle.moves.specs.Stored.{in-order-wire, open-stored-at, telling-stored, serving-stored-at, power-stored}
+use Rattle.moves.specs.Stored.{in-order-board, open-stored-at, telling-stored, serving-stored-at, power-stored}
 use Rattle.moves.specs.Acts.{plain, done-at, passes}
 use Rattle.turns.specs.At.{At, row-in, leaves-as}
 
@@ -45,10 +45,10 @@ module _ (b : Body) (n : ℕ) (a : At b n) (history : List S.Write) where
     v = toldOf (b .count) n (b .running) (b .core .streams) (b .core .claims)
 
     pub tell-yes : answerOf (decide r (toldOf (b .count) n (b .running) (b .core .streams) (b .core .claims))) ≡ stepDone
-        → (x : Wire) → x ≡ storeTelling n (r .effect (toldOf (b .count) n (b .running) (b .core .streams) (b .core .claims))) (b .count) (b .core .streams) (b .core .claims)
-        → (m : Moved) → m ≡ plain stepDone (withWire (b .running) (x .streams) (x .claims) b) → Leaves n history (via (onDevice (tellPart n)) (decide r) (stateOf b history)) m
+        → (x : Board) → x ≡ storeTelling n (r .effect (toldOf (b .count) n (b .running) (b .core .streams) (b .core .claims))) (b .count) (b .core .streams) (b .core .claims)
+        → (m : Moved) → m ≡ plain stepDone (withBoard (b .running) (x .streams) (x .claims) b) → Leaves n history (via (onDevice (tellPart n)) (decide r) (stateOf b history)) m
     unfolding holdCore
-    tell-yes h x f m e = let put : Wire → Body = λ y. withWire (b .running) (y .streams) (y .claims) b in
+    tell-yes h x f m e = let put : Board → Body = λ y. withBoard (b .running) (y .streams) (y .claims) b in
         leaves-as n history _ (plain stepDone (put x)) m e
         (done-at (onDevice (tellPart n)) r n b (a .ready) history v refl (passes r v h) (plain stepDone (put x)) refl
         (ap put f ∙ telling-stored b (a .ready) history n (r .effect v)) (sym (append-nil history)))
@@ -69,11 +69,11 @@ module _ (b : Body) (n : ℕ) (a : At b n) (history : List S.Write) where
         (f ∙ serving-stored-at b (a .ready) history n (row-in b n a) (r .effect u)) (ap (λ (l : List S.Write). history ++ l) g)
 
 module _ (b : Body) (n : ℕ) (a : At b n) where
-  pub at-wire : AtWire (b .count) n (b .core .streams) (b .core .claims)
-  at-wire = record { wire = in-order-wire b (a .ready); from = a .low; upto = a .high }
+  pub at-board : AtBoard (b .count) n (b .core .streams) (b .core .claims)
+  at-board = record { board = in-order-board b (a .ready); from = a .low; upto = a .high }
 
   pub at-stream : AtStream (b .count) n (streamOf b n)
-  at-stream = record { within = record { few = a .few; from = a .low; upto = a .high }; ordered = in-order-wire b (a .ready) .rows (n - 1) (row-in b n a) }
+  at-stream = record { within = record { few = a .few; from = a .low; upto = a .high }; ordered = in-order-board b (a .ready) .rows (n - 1) (row-in b n a) }
 
 -- ---- 12, 13 Shutdown, Startup: they carry node 0
 
@@ -81,22 +81,22 @@ module _ (b : Body) (ready : Ready b) (history : List S.Write) where
   abbrev w : Power
   w = powerOf (b .count) (b .running) (b .core .streams) (b .core .claims)
 
-  power-yes : (r : Rule Power Power) → Passes r w → (x : Wire) → x ≡ packWire (r .effect w .wire)
-      → (m : Moved) → m ≡ plain stepDone (withWire (r .effect w .running) (x .streams) (x .claims) b) → Leaves 0 history (via (onDevice powerPart) (decide r) (stateOf b history)) m
+  power-yes : (r : Rule Power Power) → Passes r w → (x : Board) → x ≡ packBoard (r .effect w .board)
+      → (m : Moved) → m ≡ plain stepDone (withBoard (r .effect w .running) (x .streams) (x .claims) b) → Leaves 0 history (via (onDevice powerPart) (decide r) (stateOf b history)) m
   unfolding holdCore
-  power-yes r p x f m e = let put : Wire → Body = λ y. withWire (r .effect w .running) (y .streams) (y .claims) b in
+  power-yes r p x f m e = let put : Board → Body = λ y. withBoard (r .effect w .running) (y .streams) (y .claims) b in
       leaves-as 0 history _ (plain stepDone (put x)) m e
       (done-at (onDevice powerPart) r 0 b ready history w refl p (plain stepDone (put x)) refl
       (ap put f ∙ power-stored b ready history (r .effect w)) (sym (append-nil history)))
 
-  pub shutdown-yes : b .running ≡ true → (x : Wire) → x ≡ packWire (cleared (holdWire (b .count) (b .core .streams) (b .core .claims)))
-      → (m : Moved) → m ≡ plain stepDone (withWire false (x .streams) (x .claims) b) → Leaves 0 history (act shutdown 0 (stateOf b history)) m
+  pub shutdown-yes : b .running ≡ true → (x : Board) → x ≡ packBoard (cleared (holdBoard (b .count) (b .core .streams) (b .core .claims)))
+      → (m : Moved) → m ≡ plain stepDone (withBoard false (x .streams) (x .claims) b) → Leaves 0 history (act shutdown 0 (stateOf b history)) m
   unfolding shutdownRule
   shutdown-yes h x f m e = power-yes shutdownRule (record { allowed = rw h tt; term = tt; history = tt; queues = tt }) x f m e
 
-  pub startup-yes : b .running ≡ false → (m : Moved) → m ≡ plain stepDone (withWire true (b .core .streams) (b .core .claims) b) → Leaves 0 history (act startup 0 (stateOf b history)) m
+  pub startup-yes : b .running ≡ false → (m : Moved) → m ≡ plain stepDone (withBoard true (b .core .streams) (b .core .claims) b) → Leaves 0 history (act startup 0 (stateOf b history)) m
   unfolding startupRule
   startup-yes h m e =
-      let o = in-order-wire b ready in
+      let o = in-order-board b ready in
       power-yes startupRule (record { allowed = rw (ap not h) tt; term = tt; history = tt; queues = tt }) (record { streams = b .core .streams; claims = b .core .claims })
       (λ i. record { streams = sym (o .streams-same) i; claims = sym (o .claims-same) i }) m e

@@ -1,4 +1,4 @@
--- What a step answers and leaves, by its class, on the structs that the class concerns.
+-- What a step answers and leaves, by its group, on the structs that the group concerns.
 use mathlib.Core.Bool.{Bool, true, false, cond}
 use mathlib.Core.List.{List, [], _∷_}
 use Prim.Native.Nat.{ℕ, _-_}
@@ -6,104 +6,105 @@ use lib.Dec.{eqb}
 use lib.ListN.{getD}
 use Rattle.rules.specs.Codes.{stepDone}
 use Rattle.rules.specs.Part.{decide}
-use Rattle.rules.specs.Rules.{joinRule, leaveRule, joined, left, handsOver, learnRule, sendUpdateRule, receiveUpdateRule, sendWriteRule, receiveWriteRule, connectRule, closeRule, handleUpdateRule, handleWriteRule, shutdownRule, startupRule, cleared}
+use Rattle.rules.specs.Rules.{joinRule, leaveRule, joined, left, handsOver, learnRule, sendUpdateRule, receiveUpdateRule, sendWriteRule, receiveWriteRule, connectRule, closeRule, handleUpdateRule, handleWriteRule, shutdownRule, startupRule, cleared, join, learns, sendUpdate, close}
+use Rattle.rules.specs.Step.{numberOf}
 use Rattle.parts.specs.Hold.{holdMastership, packMastership}
 use Rattle.parts.specs.declared.Mastership.{Mastership}
-use Rattle.state.specs.Hold.{holdDesk, holdWire}
+use Rattle.state.specs.Hold.{holdDesk, holdBoard}
 use Rattle.state.specs.Reads.{answerOf, inboxOf, senderOf, receiverOf, linkedOf, toldOf, servedOf, powerOf}
-use Rattle.state.specs.Stores.{storeSent, storeOpen, storeTelling, packWire}
-use Rattle.state.specs.declared.Node.{Node}
+use Rattle.state.specs.Stores.{storeSent, storeOpen, storeTelling, packBoard}
+use Rattle.state.specs.declared.Controller.{Controller}
 use Rattle.state.specs.declared.Stream.{Stream}
 use Rattle.state.specs.declared.Claims.{Claims}
-use Rattle.state.specs.declared.Wire.{Wire}
+use Rattle.state.specs.declared.Board.{Board}
 use Rattle.nodes.specs.Waiting.{received}
 use Rattle.writing.specs.Handled.{storeHandled}
 use Rattle.writing.specs.declared.Handled.{Handled}
 use Rattle.asks.specs.declared.Ask.{Ask}
-use Rattle.asks.specs.Classes.{barrier}
+use Rattle.asks.specs.Groups.{existence}
 use Rattle.turns.specs.declared.Row.{Row}
 
 -- ---- the answers
 
 -- Kinds 3 to 8, and 11.
-abbrev pub rowAnswer : Ask → ℕ → Node → Stream → Claims → ℕ
-rowAnswer a writes node stream claims =
-    getD (answerOf (decide learnRule (inboxOf node))
-    ∷ answerOf (decide (sendUpdateRule (a .number)) (senderOf (a .count) node stream))
-    ∷ answerOf (decide (receiveUpdateRule (a .number)) (receiverOf (a .count) node stream))
-    ∷ answerOf (decide (sendWriteRule (a .number)) (senderOf (a .count) node stream))
-    ∷ answerOf (decide receiveWriteRule (receiverOf (a .count) node stream))
-    ∷ answerOf (decide connectRule (linkedOf (a .running) stream)) ∷ []) (a .kind - 3)
-    (answerOf (decide (handleWriteRule (a .number)) (servedOf (a .count) (a .number) (a .running) stream claims writes)))
+abbrev pub rowAnswer : Ask → ℕ → Controller → Stream → Claims → ℕ
+rowAnswer a writes controller stream claims =
+    getD (answerOf (decide learnRule (inboxOf controller))
+    ∷ answerOf (decide (sendUpdateRule (a .node)) (senderOf (a .count) controller stream))
+    ∷ answerOf (decide (receiveUpdateRule (a .node)) (receiverOf (a .count) controller stream))
+    ∷ answerOf (decide (sendWriteRule (a .node)) (senderOf (a .count) controller stream))
+    ∷ answerOf (decide receiveWriteRule (receiverOf (a .count) controller stream))
+    ∷ answerOf (decide connectRule (linkedOf (a .running) stream)) ∷ []) (a .kind - numberOf learns)
+    (answerOf (decide (handleWriteRule (a .node)) (servedOf (a .count) (a .node) (a .running) stream claims writes)))
 
 -- Kinds 1 and 2.
-abbrev pub deskAnswer : Ask → Mastership → List Node → ℕ
-deskAnswer a service nodes =
-    cond (eqb (a .kind) 1)
-    (answerOf (decide (joinRule (a .number)) (holdDesk (a .count) service nodes)))
-    (answerOf (decide (leaveRule (a .number)) (holdDesk (a .count) service nodes)))
+abbrev pub deskAnswer : Ask → Mastership → List Controller → ℕ
+deskAnswer a service controllers =
+    cond (eqb (a .kind) (numberOf join))
+    (answerOf (decide (joinRule (a .node)) (holdDesk (a .count) service controllers)))
+    (answerOf (decide (leaveRule (a .node)) (holdDesk (a .count) service controllers)))
 
 -- Kinds 9 and 10, 12 and 13.
 abbrev pub switchAnswer : Ask → List Stream → Claims → ℕ
 switchAnswer a streams claims =
-    getD (answerOf (decide (closeRule (a .number)) (toldOf (a .count) (a .number) (a .running) streams claims))
-    ∷ answerOf (decide (handleUpdateRule (a .number)) (toldOf (a .count) (a .number) (a .running) streams claims))
+    getD (answerOf (decide (closeRule (a .node)) (toldOf (a .count) (a .node) (a .running) streams claims))
+    ∷ answerOf (decide (handleUpdateRule (a .node)) (toldOf (a .count) (a .node) (a .running) streams claims))
     ∷ stepDone
-    ∷ answerOf (decide shutdownRule (powerOf (a .count) (a .running) streams claims)) ∷ []) (a .kind - 9)
+    ∷ answerOf (decide shutdownRule (powerOf (a .count) (a .running) streams claims)) ∷ []) (a .kind - numberOf close)
     (answerOf (decide startupRule (powerOf (a .count) (a .running) streams claims)))
 
-abbrev pub wireAnswer : Ask → List Stream → Claims → ℕ
-wireAnswer a streams claims = cond (eqb (barrier a) stepDone) (switchAnswer a streams claims) (barrier a)
+abbrev pub boardAnswer : Ask → List Stream → Claims → ℕ
+boardAnswer a streams claims = cond (eqb (existence a) stepDone) (switchAnswer a streams claims) (existence a)
 
 -- ---- what is left
 
 -- The stream alone has changed.
-abbrev pub quiet : Ask → Node → Claims → Stream → Row
-quiet a node claims stream = record { stream = stream; says = node .says; claims = claims; entry = record { accepted = false; node = a .number; term = record { 0 = 0 } } }
+abbrev pub quiet : Ask → Controller → Claims → Stream → Row
+quiet a controller claims stream = record { stream = stream; says = controller .says; claims = claims; entry = record { accepted = false; node = a .node; term = record { 0 = 0 } } }
 
 -- Receive update: the flag too.
-abbrev pub toldRow : Ask → Node → Stream → Claims → Row
-toldRow a node stream claims = record {
+abbrev pub flaggedRow : Ask → Controller → Stream → Claims → Row
+flaggedRow a controller stream claims = record {
   stream = received stream;
-  says = receiveUpdateRule (a .number) .effect (receiverOf (a .count) node stream) .says;
+  says = receiveUpdateRule (a .node) .effect (receiverOf (a .count) controller stream) .says;
   claims = claims;
-  entry = record { accepted = false; node = a .number; term = record { 0 = 0 } };
+  entry = record { accepted = false; node = a .node; term = record { 0 = 0 } };
 }
 
 -- Handle write: the last accepted term, and the write.
-abbrev pub handledRow : Ask → Node → Claims → Handled → Row
-handledRow a node claims h = record {
+abbrev pub handledRow : Ask → Controller → Claims → Handled → Row
+handledRow a controller claims h = record {
   stream = h .stream;
-  says = node .says;
+  says = controller .says;
   claims = record { ids = claims .ids; terms = claims .terms; last = h .last };
-  entry = record { accepted = h .accepted; node = a .number; term = h .term };
+  entry = record { accepted = h .accepted; node = a .node; term = h .term };
 }
 
-abbrev pub writtenRow : Ask → Node → Stream → Claims → Row
-writtenRow a node stream claims = handledRow a node claims (storeHandled (handleWriteRule (a .number) .effect (servedOf (a .count) (a .number) true stream claims 0)) stream)
+abbrev pub writtenRow : Ask → Controller → Stream → Claims → Row
+writtenRow a controller stream claims = handledRow a controller claims (storeHandled (handleWriteRule (a .node) .effect (servedOf (a .count) (a .node) true stream claims 0)) stream)
 
 -- Kinds 4 to 8, and 11.
-abbrev pub rowAfter : Ask → Node → Stream → Claims → Row
-rowAfter a node stream claims =
-    getD (quiet a node claims (storeSent (sendUpdateRule (a .number) .effect (senderOf (a .count) node stream)) stream)
-    ∷ toldRow a node stream claims
-    ∷ quiet a node claims (storeSent (sendWriteRule (a .number) .effect (senderOf (a .count) node stream)) stream)
-    ∷ quiet a node claims (received stream)
-    ∷ quiet a node claims (storeOpen true stream) ∷ []) (a .kind - 4)
-    (writtenRow a node stream claims)
+abbrev pub rowAfter : Ask → Controller → Stream → Claims → Row
+rowAfter a controller stream claims =
+    getD (quiet a controller claims (storeSent (sendUpdateRule (a .node) .effect (senderOf (a .count) controller stream)) stream)
+    ∷ flaggedRow a controller stream claims
+    ∷ quiet a controller claims (storeSent (sendWriteRule (a .node) .effect (senderOf (a .count) controller stream)) stream)
+    ∷ quiet a controller claims (received stream)
+    ∷ quiet a controller claims (storeOpen true stream) ∷ []) (a .kind - numberOf sendUpdate)
+    (writtenRow a controller stream claims)
 
 -- Kinds 1 and 2: the service's mastership, and whether the nodes hear of it.
 abbrev pub serviceAfter : Ask → Mastership → Mastership
-serviceAfter a service = cond (eqb (a .kind) 1) (packMastership (joined (a .number) (holdMastership service))) (packMastership (left (a .number) (holdMastership service)))
+serviceAfter a service = cond (eqb (a .kind) (numberOf join)) (packMastership (joined (a .node) (holdMastership service))) (packMastership (left (a .node) (holdMastership service)))
 
 abbrev pub posting : Ask → Mastership → Bool
-posting a service = cond (eqb (a .kind) 1) true (handsOver (a .number) (holdMastership service))
+posting a service = cond (eqb (a .kind) (numberOf join)) true (handsOver (a .node) (holdMastership service))
 
--- Kinds 9 and 10, 12 and 13: the wire.
-abbrev pub wireAfter : Ask → List Stream → Claims → Wire
-wireAfter a streams claims =
-    getD (storeTelling (a .number) (closeRule (a .number) .effect (toldOf (a .count) (a .number) true streams claims)) (a .count) streams claims
-    ∷ storeTelling (a .number) (handleUpdateRule (a .number) .effect (toldOf (a .count) (a .number) true streams claims)) (a .count) streams claims
+-- Kinds 9 and 10, 12 and 13: the board.
+abbrev pub boardAfter : Ask → List Stream → Claims → Board
+boardAfter a streams claims =
+    getD (storeTelling (a .node) (closeRule (a .node) .effect (toldOf (a .count) (a .node) true streams claims)) (a .count) streams claims
+    ∷ storeTelling (a .node) (handleUpdateRule (a .node) .effect (toldOf (a .count) (a .node) true streams claims)) (a .count) streams claims
     ∷ record { streams = streams; claims = claims }
-    ∷ packWire (cleared (holdWire (a .count) streams claims)) ∷ []) (a .kind - 9)
+    ∷ packBoard (cleared (holdBoard (a .count) streams claims)) ∷ []) (a .kind - numberOf close)
     (record { streams = streams; claims = claims })

@@ -1,25 +1,24 @@
-// What a step answers, and what it leaves, class by class and on no more than it concerns: kinds 3 to 8 and 11 a node and its stream, kinds 1 and 2
+// What a step answers, and what it leaves, group by group and on no more than it concerns: kinds 3 to 8 and 11 a node and its stream, kinds 1 and 2
 // the service and all nodes, kinds 9, 10, 12 and 13 the switch and all streams. An answer only reads; what is left is asked for where it is 0.
 ghost use mathlib.Core.Path.{_≡_};
 ghost use mathlib.Core.Logic.{_≢_};
 ghost use mathlib.Core.Bool.{cond};
 ghost use Rattle.rules.specs.Codes.{stepDone, notAllowed};
-ghost use Rattle.state.specs.Order.{OrderedNodes};
-ghost use Rattle.asks.specs.Classes.{barrier};
+ghost use Rattle.rules.specs.Rules.{learns};
+ghost use Rattle.rules.specs.Step.{numberOf};
+ghost use Rattle.state.specs.Order.{OrderedControllers};
+ghost use Rattle.asks.specs.Groups.{existence};
 ghost use Rattle.nodes.specs.Waiting.{Waits};
 ghost use Rattle.writing.specs.Asks.{CanWrite};
-ghost use Rattle.turns.specs.Turns.{rowAnswer, deskAnswer, switchAnswer, wireAnswer, quiet, toldRow, writtenRow, rowAfter, serviceAfter, posting, wireAfter};
-ghost use Rattle.turns.specs.Asks.{RowAsks, WireAsks, RowGoes, DeskGoes, WireGoes};
+ghost use Rattle.turns.specs.Turns.{rowAnswer, deskAnswer, switchAnswer, boardAnswer, quiet, flaggedRow, writtenRow, rowAfter, serviceAfter, posting, boardAfter};
+ghost use Rattle.turns.specs.Asks.{RowAsks, BoardAsks, RowGoes, DeskGoes, BoardGoes};
 use asks::Ask;
 use parts::Mastership;
 use parts::Term;
+use state::Board;
 use state::Claims;
-use state::Node;
+use state::Controller;
 use state::Stream;
-use state::Wire;
-
-// The kind that concerns a node alone.
-pub const LEARN: u8 = 3;
 
 // The write of a step, where it accepted one.
 pub struct Entry {
@@ -48,58 +47,64 @@ fn allowed_code(allowed: bool) -> u8
 }
 
 // At a node and its stream. The history holds `writes`.
-pub fn row_code(ask: Ask, writes: u16, node: Node, stream: Stream, claims: Claims) -> u8
-    requires { ⌜ RowAsks ask node stream ⌝ }
-    ensures { λ r. ⌜ r ≡ rowAnswer ask writes node stream claims ⌝ }
+pub fn row_code(ask: Ask, writes: u16, controller: Controller, stream: Stream, claims: Claims) -> u8
+    requires { ⌜ RowAsks ask controller stream ⌝ }
+    ensures { λ r. ⌜ r ≡ rowAnswer ask writes controller stream claims ⌝ }
 {
     let kind = ask.kind;
     match kind {
-        3 => allowed_code(nodes::may_learn(node)),
-        4 => nodes::send_code(
-            nodes::may_send_update(ask.count, ask.number, node, stream),
+        parts::LEARN => allowed_code(nodes::may_learn(controller)),
+        parts::SEND_UPDATE => nodes::send_code(
+            nodes::may_send_update(ask.count, ask.node, controller, stream),
             stream,
         ),
-        5 => allowed_code(nodes::may_receive_update(stream)),
-        6 => nodes::send_code(
-            nodes::may_send_write(ask.count, ask.number, node, stream),
+        parts::RECEIVE_UPDATE => allowed_code(nodes::may_receive_update(stream)),
+        parts::SEND_WRITE => nodes::send_code(
+            nodes::may_send_write(ask.count, ask.node, controller, stream),
             stream,
         ),
-        7 => allowed_code(nodes::may_receive_write(stream)),
-        8 => switch::connect_code(ask.running, stream),
-        _ => writing::handle_write_code(ask.count, ask.number, ask.running, stream, claims, writes),
+        parts::RECEIVE_WRITE => allowed_code(nodes::may_receive_write(stream)),
+        parts::CONNECT => switch::connect_code(ask.running, stream),
+        _ => writing::handle_write_code(ask.count, ask.node, ask.running, stream, claims, writes),
     }
 }
 
 // Of the service.
-pub fn desk_code(ask: Ask, service: Mastership, nodes: [Node; 8]) -> u8
-    requires { ⌜ OrderedNodes (ask .count) nodes ⌝ }
-    ensures { λ r. ⌜ r ≡ deskAnswer ask service nodes ⌝ }
+pub fn desk_code(ask: Ask, service: Mastership, controllers: [Controller; 8]) -> u8
+    requires { ⌜ OrderedControllers (ask .count) controllers ⌝ }
+    ensures { λ r. ⌜ r ≡ deskAnswer ask service controllers ⌝ }
 {
-    if ask.kind == 1 {
-        return service::join_code(ask.count, ask.number, service, nodes);
+    if ask.kind == parts::JOIN {
+        return service::join_code(ask.count, ask.node, service, controllers);
     }
-    service::leave_code(ask.count, ask.number, service, nodes)
+    service::leave_code(ask.count, ask.node, service, controllers)
 }
 
 fn switch_code(ask: Ask, streams: [Stream; 8], claims: Claims) -> u8
-    requires { ⌜ WireAsks ask streams claims × (barrier ask ≡ stepDone) ⌝ }
+    requires { ⌜ BoardAsks ask streams claims × (existence ask ≡ stepDone) ⌝ }
     ensures { λ r. ⌜ r ≡ switchAnswer ask streams claims ⌝ }
 {
     let kind = ask.kind;
     match kind {
-        9 => switch::close_code(ask.count, ask.number, streams, claims),
-        10 => switch::handle_update_code(ask.count, ask.number, ask.running, streams, claims),
-        12 => allowed_code(ask.running),
+        parts::CLOSE => switch::close_code(ask.count, ask.node, streams, claims),
+        parts::HANDLE_UPDATE => switch::handle_update_code(
+            ask.count,
+            ask.node,
+            ask.running,
+            streams,
+            claims,
+        ),
+        parts::SHUTDOWN => allowed_code(ask.running),
         _ => allowed_code(!ask.running),
     }
 }
 
 // Of the switch and all streams; and of a kind that does not exist, or does not call for the node.
-pub fn wire_code(ask: Ask, streams: [Stream; 8], claims: Claims) -> u8
-    requires { ⌜ WireAsks ask streams claims ⌝ }
-    ensures { λ r. ⌜ r ≡ wireAnswer ask streams claims ⌝ }
+pub fn board_code(ask: Ask, streams: [Stream; 8], claims: Claims) -> u8
+    requires { ⌜ BoardAsks ask streams claims ⌝ }
+    ensures { λ r. ⌜ r ≡ boardAnswer ask streams claims ⌝ }
 {
-    let code = asks::barrier(ask);
+    let code = asks::existence_code(ask);
     if code == parts::DONE {
         return switch_code(ask, streams, claims);
     }
@@ -109,38 +114,38 @@ pub fn wire_code(ask: Ask, streams: [Stream; 8], claims: Claims) -> u8
 // ---- what is left
 
 // The stream alone has changed.
-fn quiet(ask: Ask, node: Node, claims: Claims, stream: Stream) -> Row
-    ensures { λ r. ⌜ r ≡ quiet ask node claims stream ⌝ }
+fn quiet(ask: Ask, controller: Controller, claims: Claims, stream: Stream) -> Row
+    ensures { λ r. ⌜ r ≡ quiet ask controller claims stream ⌝ }
 {
     let entry = Entry {
         accepted: false,
-        node: ask.number,
+        node: ask.node,
         term: Term(0),
     };
     Row {
         stream: stream,
-        says: node.says,
+        says: controller.says,
         claims: claims,
         entry: entry,
     }
 }
 
 // Receive update: the flag too.
-fn told(ask: Ask, node: Node, stream: Stream, claims: Claims) -> Row
+fn flagged(ask: Ask, controller: Controller, stream: Stream, claims: Claims) -> Row
     requires { ⌜ Waits stream ⌝ }
-    ensures { λ r. ⌜ r ≡ toldRow ask node stream claims ⌝ }
+    ensures { λ r. ⌜ r ≡ flaggedRow ask controller stream claims ⌝ }
 {
-    let mut next = quiet(ask, node, claims, nodes::receive(stream));
-    next.says = nodes::confirmed(ask.count, ask.number, node, stream);
+    let mut next = quiet(ask, controller, claims, nodes::receive(stream));
+    next.says = nodes::confirmed(ask.count, ask.node, controller, stream);
     next
 }
 
 // Handle write: the last accepted term, and the write.
-fn written(ask: Ask, node: Node, stream: Stream, claims: Claims) -> Row
-    requires { ⌜ CanWrite (ask .count) (ask .number) stream claims ⌝ }
-    ensures { λ r. ⌜ r ≡ writtenRow ask node stream claims ⌝ }
+fn written(ask: Ask, controller: Controller, stream: Stream, claims: Claims) -> Row
+    requires { ⌜ CanWrite (ask .count) (ask .node) stream claims ⌝ }
+    ensures { λ r. ⌜ r ≡ writtenRow ask controller stream claims ⌝ }
 {
-    let handled = writing::handle_write(ask.count, ask.number, stream, claims);
+    let handled = writing::handle_write(ask.count, ask.node, stream, claims);
     let next = handled.stream;
     let last = handled.last;
     let term = handled.term;
@@ -148,40 +153,40 @@ fn written(ask: Ask, node: Node, stream: Stream, claims: Claims) -> Row
     held.last = last;
     let entry = Entry {
         accepted: handled.accepted,
-        node: ask.number,
+        node: ask.node,
         term: term,
     };
     Row {
         stream: next,
-        says: node.says,
+        says: controller.says,
         claims: held,
         entry: entry,
     }
 }
 
 // Of a node and its stream, by every kind but Learn.
-pub fn row_after(ask: Ask, node: Node, stream: Stream, claims: Claims) -> Row
-    requires { ⌜ RowGoes ask node stream claims × (ask .kind ≢ 3) ⌝ }
-    ensures { λ r. ⌜ r ≡ rowAfter ask node stream claims ⌝ }
+pub fn row_after(ask: Ask, controller: Controller, stream: Stream, claims: Claims) -> Row
+    requires { ⌜ RowGoes ask controller stream claims × (ask .kind ≢ numberOf learns) ⌝ }
+    ensures { λ r. ⌜ r ≡ rowAfter ask controller stream claims ⌝ }
 {
     let kind = ask.kind;
     match kind {
-        4 => quiet(
+        parts::SEND_UPDATE => quiet(
             ask,
-            node,
+            controller,
             claims,
-            nodes::send_update(ask.count, ask.number, node, stream),
+            nodes::send_update(ask.count, ask.node, controller, stream),
         ),
-        5 => told(ask, node, stream, claims),
-        6 => quiet(
+        parts::RECEIVE_UPDATE => flagged(ask, controller, stream, claims),
+        parts::SEND_WRITE => quiet(
             ask,
-            node,
+            controller,
             claims,
-            nodes::send_write(ask.count, ask.number, node, stream),
+            nodes::send_write(ask.count, ask.node, controller, stream),
         ),
-        7 => quiet(ask, node, claims, nodes::receive(stream)),
-        8 => quiet(ask, node, claims, switch::connect(stream)),
-        _ => written(ask, node, stream, claims),
+        parts::RECEIVE_WRITE => quiet(ask, controller, claims, nodes::receive(stream)),
+        parts::CONNECT => quiet(ask, controller, claims, switch::connect(stream)),
+        _ => written(ask, controller, stream, claims),
     }
 }
 
@@ -190,33 +195,33 @@ pub fn service_after(ask: Ask, service: Mastership) -> Mastership
     requires { ⌜ DeskGoes ask service ⌝ }
     ensures { λ r. ⌜ r ≡ serviceAfter ask service ⌝ }
 {
-    if ask.kind == 1 {
-        return service::joined(service, ask.number);
+    if ask.kind == parts::JOIN {
+        return service::joined(service, ask.node);
     }
-    service::left(service, ask.number)
+    service::left(service, ask.node)
 }
 
 // Whether the nodes hear of it.
 pub fn posts(ask: Ask, service: Mastership) -> bool
     ensures { λ r. ⌜ r ≡ posting ask service ⌝ }
 {
-    if ask.kind == 1 {
+    if ask.kind == parts::JOIN {
         return true;
     }
-    service::hands_over(service, ask.number)
+    service::hands_over(service, ask.node)
 }
 
 // Of the streams and what the switch holds.
-pub fn wire_after(ask: Ask, streams: [Stream; 8], claims: Claims) -> Wire
-    requires { ⌜ WireGoes ask streams claims ⌝ }
-    ensures { λ r. ⌜ r ≡ wireAfter ask streams claims ⌝ }
+pub fn board_after(ask: Ask, streams: [Stream; 8], claims: Claims) -> Board
+    requires { ⌜ BoardGoes ask streams claims ⌝ }
+    ensures { λ r. ⌜ r ≡ boardAfter ask streams claims ⌝ }
 {
     let kind = ask.kind;
     match kind {
-        9 => switch::close(ask.count, ask.number, streams, claims),
-        10 => switch::handle_update(ask.count, ask.number, streams, claims),
-        12 => switch::shutdown(ask.count, streams, claims),
-        _ => Wire {
+        parts::CLOSE => switch::close(ask.count, ask.node, streams, claims),
+        parts::HANDLE_UPDATE => switch::handle_update(ask.count, ask.node, streams, claims),
+        parts::SHUTDOWN => switch::shutdown(ask.count, streams, claims),
+        _ => Board {
             streams: streams,
             claims: claims,
         },

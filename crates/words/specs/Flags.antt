@@ -9,7 +9,7 @@ use lib.Pow.{pow-mono}
 use lib.ListN.{length, getD, set}
 use lib.Count.{ones, ones-step, trailingZeros}
 use lib.Bits.{bitAnd, and-step, and-self}
-use Rattle.rules.specs.Open.{wordOf, countOf}
+use Rattle.rules.specs.Open.{wordOf, openNumber}
 
 odd-half : (w : ℕ) → (1 + 2 * w) / 2 ≡ w
 odd-half w = omega arith
@@ -24,11 +24,11 @@ even-mod : (w : ℕ) → (0 + 2 * w) % 2 ≡ 0
 even-mod w = omega arith
 
 -- the ones of the word are the true flags
-pub ones-count : (l : List Bool) → ones (wordOf l) ≡ countOf l
-unfolding ones wordOf countOf
-ones-count [] = refl
-ones-count (true ∷ l) = ones-step (1 + 2 * wordOf l) ∙ simp (odd-half, odd-mod, ones-count l)
-ones-count (false ∷ l) = ones-step (0 + 2 * wordOf l) ∙ simp (even-half, even-mod, ones-count l)
+pub ones-open : (l : List Bool) → ones (wordOf l) ≡ openNumber l
+unfolding ones wordOf openNumber
+ones-open [] = refl
+ones-open (true ∷ l) = ones-step (1 + 2 * wordOf l) ∙ simp (odd-half, odd-mod, ones-open l)
+ones-open (false ∷ l) = ones-step (0 + 2 * wordOf l) ∙ simp (even-half, even-mod, ones-open l)
 
 -- the word is 0 only where no flag is true
 pub none-set : (l : List Bool) → wordOf l ≡ 0 → (i : ℕ) → getD l i false ≡ false

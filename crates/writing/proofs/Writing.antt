@@ -24,7 +24,7 @@ use Rattle.state.specs.Reads.{answerOf, servedOf}
 use Rattle.state.specs.declared.Stream.{Stream}
 use Rattle.state.specs.declared.Claims.{Claims}
 use Rattle.streams.specs.Asks.{IsNode, HasHead}
-use Rattle.streams.specs.Does.{told, withoutHead, waiting}
+use Rattle.streams.specs.Does.{responded, withoutHead, waiting}
 use Rattle.streams.proofs.Answers.{answer-by, byTests}
 use Rattle.streams.proofs.Waiting.{ready, running-too, message, write-waits, no-write-waits}
 use Rattle.writing.specs.Asks.{AtStream, WriteAt, CanWrite}
@@ -86,7 +86,7 @@ module _ {count n : ℕ} {s : Stream} {claims : Claims} (u : CanWrite count n s 
   full-not false e = refl
 
   -- the stream, answered
-  answered : (status : S.Status) → told (packResponse (writeAnswer status)) (withoutHead s)
+  answered : (status : S.Status) → responded (packResponse (writeAnswer status)) (withoutHead s)
       ≡ record { opened = s .opened; sent = s .sent; requests = packRequests (rest (holdRequests (s .requests))); responses = packResponses (push (writeAnswer status) (holdResponses (s .responses))) }
   answered status =
       let o = u .head .at .ordered in
@@ -102,7 +102,7 @@ module _ {count n : ℕ} {s : Stream} {claims : Claims} (u : CanWrite count n s 
   v = servedOf count n true s claims 0
 
   pub accepted : judged count n (headId s) claims ≡ true
-      → record { stream = told (packResponse (writeAnswer S.ok)) (withoutHead s); last = getD (claims .terms) (n - 1) (record { 0 = 0 }); accepted = true; term = record { 0 = first noRequest (holdRequests (s .requests)) .term } }
+      → record { stream = responded (packResponse (writeAnswer S.ok)) (withoutHead s); last = getD (claims .terms) (n - 1) (record { 0 = 0 }); accepted = true; term = record { 0 = first noRequest (holdRequests (s .requests)) .term } }
       ≡ storeHandled (handleWriteRule n .effect v) s
   unfolding storeHandled handleWriteRule accepts judged first empty
   accepted e = (λ i. record {
@@ -113,7 +113,7 @@ module _ {count n : ℕ} {s : Stream} {claims : Claims} (u : CanWrite count n s 
   }) ∙ simp e
 
   pub denied : judged count n (headId s) claims ≡ false
-      → record { stream = told (packResponse (writeAnswer S.permissionDenied)) (withoutHead s); last = claims .last; accepted = false; term = record { 0 = 0 } }
+      → record { stream = responded (packResponse (writeAnswer S.permissionDenied)) (withoutHead s); last = claims .last; accepted = false; term = record { 0 = 0 } }
       ≡ storeHandled (handleWriteRule n .effect v) s
   unfolding storeHandled handleWriteRule accepts judged first empty
   denied e = (λ i. record {

@@ -113,7 +113,7 @@ pub fn handle_write(count: u8, node: u8, stream: Stream, claims: Claims) -> Hand
         let terms = claims.terms;
         let last = terms[at];
         let term = request.term;
-        let next = streams::tell(row, written(Status::Ok));
+        let next = streams::respond(row, written(Status::Ok));
         return Handled {
             stream: next,
             last: last,
@@ -122,7 +122,7 @@ pub fn handle_write(count: u8, node: u8, stream: Stream, claims: Claims) -> Hand
         };
     }
     let last = claims.last;
-    let next = streams::tell(row, written(Status::PermissionDenied));
+    let next = streams::respond(row, written(Status::PermissionDenied));
     Handled {
         stream: next,
         last: last,

@@ -11,11 +11,11 @@ returns c = let k = c .before .before .args .ask .kind in simp (under 1 2 k (ome
 returns-2 : tie.Need-returns-2
 returns-2 c = let k = c .before .before .before .before .args .ask .kind in simp (over 1 2 k (omega arith) (omega arith))
 
-has-node-requires : tie.Need-has-node-requires
-has-node-requires c κs = search needs
+is-node-requires : tie.Need-is-node-requires
+is-node-requires c κs = search needs
 
 returns-3 : tie.Need-returns-3
-returns-3 c = let k = c .before .before .before .before .before .args .ask .kind in simp (inside 1 2 k (omega arith) (omega arith)) (c .has-node .ensures)
+returns-3 c = let k = c .before .before .before .before .before .args .ask .kind in simp (inside 1 2 k (omega arith) (omega arith)) (c .is-node .ensures)
 
 pub at-desk-spec : {M : Type 1} → statement M
-at-desk-spec = tie.close (tie.spec returns returns-2 has-node-requires returns-3)
+at-desk-spec = tie.close (tie.spec returns returns-2 is-node-requires returns-3)

@@ -22,11 +22,11 @@ at-desk-requires-2 c κs = (c .before .before .before .before .pre, sym (c .befo
 returns-2 : tie.Need-returns-2
 returns-2 c = λ history long. c .at-desk2 .ensures history
 
-at-wire-requires : tie.Need-at-wire-requires
-at-wire-requires c κs = (c .before .before .before .before .pre, sym (c .before .before .before .at-row .ensures) ∙ c .before .before .if1 .left, sym (c .before .at-desk .ensures) ∙ c .if2 .left)
+at-board-requires : tie.Need-at-board-requires
+at-board-requires c κs = (c .before .before .before .before .pre, sym (c .before .before .before .at-row .ensures) ∙ c .before .before .if1 .left, sym (c .before .at-desk .ensures) ∙ c .if2 .left)
 
 returns-3 : tie.Need-returns-3
-returns-3 c = λ history long. c .at-wire .ensures history
+returns-3 c = λ history long. c .at-board .ensures history
 
 pub advance-spec : {M : Type 1} → statement M
 advance-spec =
@@ -38,5 +38,5 @@ advance-spec =
     at-desk-requires
     at-desk-requires-2
     returns-2
-    at-wire-requires
+    at-board-requires
     returns-3)

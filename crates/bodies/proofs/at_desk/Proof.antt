@@ -3,7 +3,7 @@ use mathlib.Core.Path.{sym, ap, _∙_}
 use Prim.Native.Nat.{_-_}
 use Rattle.rules.specs.Codes.{stepDone}
 use Rattle.rules.specs.Step.{kindOf}
-use Rattle.moves.specs.Stored.{few, in-order-nodes}
+use Rattle.moves.specs.Stored.{few, in-order-controllers}
 use Rattle.moves.specs.Acts.{plain}
 use Rattle.asks.specs.Kinds.{DeskKind, desk-at}
 use Rattle.turns.specs.At.{At, leaves-as}
@@ -13,23 +13,23 @@ use borrow.Author.Needs.{needs}
 use Rattle.bodies.proofs.at_desk.Statement.{statement}
 use Rattle.bodies.proofs.at_desk.Tie as tie
 
-node-of : (s : tie.Start) → At (s .args .body) (s .args .number)
+node-of : (s : tie.Start) → At (s .args .body) (s .args .node)
 node-of s =
     let b = s .args .body in
-    let w = desk-at (askOf b (s .args .kind) (s .args .number)) (s .pre .1) .1 in
+    let w = desk-at (askOf b (s .args .kind) (s .args .node)) (s .pre .1) .1 in
     record { ready = s .pre .0; low = w .lower; high = w .upper; few = few b (s .pre .0) }
 
 kind-of : (s : tie.Start) → DeskKind (s .args .kind)
-kind-of s = desk-at (askOf (s .args .body) (s .args .kind) (s .args .number)) (s .pre .1) .0
+kind-of s = desk-at (askOf (s .args .body) (s .args .kind) (s .args .node)) (s .pre .1) .0
 
 desk-code-requires : tie.Need-desk-code-requires
-desk-code-requires c κs = let start = c .before .before .before in in-order-nodes (start .args .body) (start .pre .0)
+desk-code-requires c κs = let start = c .before .before .before in in-order-controllers (start .args .body) (start .pre .0)
 
 service-after-requires : tie.Need-service-after-requires
 service-after-requires c κs =
     let start = c .before .before .before .before .before in
     let b = start .args .body in
-    let n = start .args .number in
+    let n = start .args .node in
     let k = start .args .kind in
     desk-goes b n (node-of start) k (kind-of start) (sym (c .before .desk-code .ensures) ∙ c .if1 .taken)
 
@@ -40,11 +40,11 @@ post-requires : tie.Need-post-requires
 post-requires c κs =
     let start = c .before .before .before .before .before .before .before .before in
     let b = start .args .body in
-    let n = start .args .number in
+    let n = start .args .node in
     let k = start .args .kind in
     let a = node-of start in
     let done = sym (c .before .before .before .before .desk-code .ensures) ∙ c .before .before .before .if1 .taken in (
-      in-order-nodes b (start .pre .0),
+      in-order-controllers b (start .pre .0),
       desk-written b n a k (kind-of start) done (c .before .before .service-after .result) (c .before .before .service-after .ensures),
       desk-room b n a k (kind-of start) done (sym (c .before .posts .ensures) ∙ c .if2 .taken),
     )
@@ -59,7 +59,7 @@ returns : tie.Need-returns
 returns c = λ history.
     let start = c .before .before .before .before .before .before .before .before .before .before .before in
     let b = start .args .body in
-    let n = start .args .number in
+    let n = start .args .node in
     let k = start .args .kind in
     let coded = c .before .before .before .before .before .before .before in
     let x = c .before .before .before .before .before .service-after in
@@ -77,7 +77,7 @@ returns-2 : tie.Need-returns-2
 returns-2 c = λ history.
     let start = c .before .before .before .before .before .before .before .before .before .before in
     let b = start .args .body in
-    let n = start .args .number in
+    let n = start .args .node in
     let k = start .args .kind in
     let x = c .before .before .before .before .service-after in
     leaves-as n history _ _ (c .plain2 .result) (c .plain2 .ensures ∙ ap (plain stepDone) (c .before .with-desk2 .ensures))
@@ -91,7 +91,7 @@ returns-3 : tie.Need-returns-3
 returns-3 c = λ history.
     let start = c .before .before .before .before .before .before in
     let b = start .args .body in
-    let n = start .args .number in
+    let n = start .args .node in
     let k = start .args .kind in
     let coded = c .before .before .desk-code in
     leaves-as n history _ _ (c .plain3 .result) (c .plain3 .ensures)

@@ -8,38 +8,38 @@ use Rattle.rules.specs.Codes.{stepDone}
 use Rattle.rules.specs.State.{Write}
 use Rattle.rules.specs.Step.{kindOf, ofKind}
 use Rattle.moves.specs.Bodies.{stateOf, Leaves}
-use Rattle.moves.specs.Sets.{withNode}
-use Rattle.moves.specs.Gets.{nodeOf, streamOf}
+use Rattle.moves.specs.Sets.{withController}
+use Rattle.moves.specs.Gets.{controllerOf, streamOf}
 use Rattle.moves.specs.Stored.{few}
 use Rattle.moves.specs.Acts.{plain}
 use Rattle.asks.specs.Kinds.{RowKind, row-at}
 use Rattle.turns.specs.Turns.{rowAnswer}
 use Rattle.turns.specs.At.{At, leaves-as}
-use Rattle.turns.specs.Nodes.{node-ordered}
+use Rattle.turns.specs.Nodes.{controller-ordered}
 use Rattle.turns.specs.Called.{askOf, refused-leaves}
 use Rattle.turns.specs.RowTurns.{row-asks, row-answered, row-goes, rowMoved, learn-leaves, row-leaves}
 use borrow.Author.Needs.{needs}
 use Rattle.bodies.proofs.at_row.Statement.{statement}
 use Rattle.bodies.proofs.at_row.Tie as tie
 
-node-of : (s : tie.Start) → At (s .args .body) (s .args .number)
+node-of : (s : tie.Start) → At (s .args .body) (s .args .node)
 node-of s =
     let b = s .args .body in
-    let w = row-at (askOf b (s .args .kind) (s .args .number)) (s .pre .1) .1 in
+    let w = row-at (askOf b (s .args .kind) (s .args .node)) (s .pre .1) .1 in
     record { ready = s .pre .0; low = w .lower; high = w .upper; few = few b (s .pre .0) }
 
 kind-of : (s : tie.Start) → RowKind (s .args .kind)
-kind-of s = row-at (askOf (s .args .body) (s .args .kind) (s .args .number)) (s .pre .1) .0
+kind-of s = row-at (askOf (s .args .body) (s .args .kind) (s .args .node)) (s .pre .1) .0
 
 -- the answer, for any history of this length
 answer : (c : tie.After-row-code) → let s = c .before .before .before .before .before in
     (history : List Write) → length history ≡ s .args .writes
-    → c .row-code .result ≡ rowAnswer (askOf (s .args .body) (s .args .kind) (s .args .number)) (length history) (nodeOf (s .args .body) (s .args .number)) (streamOf (s .args .body) (s .args .number)) (s .args .body .core .claims)
+    → c .row-code .result ≡ rowAnswer (askOf (s .args .body) (s .args .kind) (s .args .node)) (length history) (controllerOf (s .args .body) (s .args .node)) (streamOf (s .args .body) (s .args .node)) (s .args .body .core .claims)
 answer c history long =
     let s = c .before .before .before .before .before in
     let b = s .args .body in
-    let n = s .args .number in
-    c .row-code .ensures ∙ ap (λ (w : ℕ). rowAnswer (askOf b (s .args .kind) n) w (nodeOf b n) (streamOf b n) (b .core .claims)) (sym long)
+    let n = s .args .node in
+    c .row-code .ensures ∙ ap (λ (w : ℕ). rowAnswer (askOf b (s .args .kind) n) w (controllerOf b n) (streamOf b n) (b .core .claims)) (sym long)
 
 sub-at : tie.Need-sub-at
 sub-at c =
@@ -51,13 +51,13 @@ cast-at c =
     let a = node-of (c) in
     omega arith
 
-mul-node : tie.Need-mul-node
-mul-node c =
+mul-controller : tie.Need-mul-controller
+mul-controller c =
     let a = node-of (c .before) in
     omega arith
 
-element-copy-out-node : tie.Need-element-copy-out-node
-element-copy-out-node c =
+element-copy-out-controller : tie.Need-element-copy-out-controller
+element-copy-out-controller c =
     let a = node-of (c .before) in
     omega arith
 
@@ -72,13 +72,13 @@ element-copy-out-stream c =
     omega arith
 
 row-code-requires : tie.Need-row-code-requires
-row-code-requires c κs = let start = c .before .before .before .before in row-asks (start .args .body) (start .args .number) (node-of start) (start .args .kind) (kind-of start)
+row-code-requires c κs = let start = c .before .before .before .before in row-asks (start .args .body) (start .args .node) (node-of start) (start .args .kind) (kind-of start)
 
 learn-requires : tie.Need-learn-requires
-learn-requires c κs = let start = c .before .before .before .before .before .before .before in node-ordered (start .args .body) (start .args .number) (node-of start)
+learn-requires c κs = let start = c .before .before .before .before .before .before .before in controller-ordered (start .args .body) (start .args .node) (node-of start)
 
-with-node-requires : tie.Need-with-node-requires
-with-node-requires c κs =
+with-controller-requires : tie.Need-with-controller-requires
+with-controller-requires c κs =
     let a = node-of (c .before .before .before .before .before .before .before .before) in
     (omega arith, omega arith)
 
@@ -90,18 +90,18 @@ returns c = λ history long.
     let coded = c .before .before .before .before .before in
     let start = coded .before .before .before .before .before in
     let b = start .args .body in
-    let n = start .args .number in
+    let n = start .args .node in
     let three = c .before .before .before .if2 .taken in
     let done = sym (answer coded history long) ∙ c .before .before .before .before .if1 .taken in
-    leaves-as n history _ (plain stepDone (withNode n (c .before .before .learn .result) b)) (c .plain .result) (c .plain .ensures ∙ ap (plain stepDone) (c .before .with-node .ensures))
-    (subst (λ (k : ℕ). Leaves n history (ofKind (kindOf k) n (stateOf b history)) (plain stepDone (withNode n (c .before .before .learn .result) b))) (sym three)
-    (learn-leaves b n (node-of start) history (subst (λ (k : ℕ). rowAnswer (askOf b k n) (length history) (nodeOf b n) (streamOf b n) (b .core .claims) ≡ stepDone) three done)
+    leaves-as n history _ (plain stepDone (withController n (c .before .before .learn .result) b)) (c .plain .result) (c .plain .ensures ∙ ap (plain stepDone) (c .before .with-controller .ensures))
+    (subst (λ (k : ℕ). Leaves n history (ofKind (kindOf k) n (stateOf b history)) (plain stepDone (withController n (c .before .before .learn .result) b))) (sym three)
+    (learn-leaves b n (node-of start) history (subst (λ (k : ℕ). rowAnswer (askOf b k n) (length history) (controllerOf b n) (streamOf b n) (b .core .claims) ≡ stepDone) three done)
     (c .before .before .learn .result) (c .before .before .learn .ensures)))
 
 row-after-requires : tie.Need-row-after-requires
 row-after-requires c κs =
     let start = c .before .before .before .before .before .before .before in
-    (row-goes (start .args .body) (start .args .number) (node-of start) (start .args .writes) (start .args .kind) (kind-of start) (sym (c .before .before .row-code .ensures) ∙ c .before .if1 .taken), c .if2 .left)
+    (row-goes (start .args .body) (start .args .node) (node-of start) (start .args .writes) (start .args .kind) (kind-of start) (sym (c .before .before .row-code .ensures) ∙ c .before .if1 .taken), c .if2 .left)
 
 with-row-requires : tie.Need-with-row-requires
 with-row-requires c κs =
@@ -113,7 +113,7 @@ returns-2 c = λ history long.
     let coded = c .before .before .before .before in
     let start = coded .before .before .before .before .before in
     let b = start .args .body in
-    let n = start .args .number in
+    let n = start .args .node in
     leaves-as n history _ _ (c .with-row .result) (c .with-row .ensures ∙ ap (rowMoved b n) (c .before .row-after .ensures))
     (row-leaves b n (node-of start) history (start .args .kind) (kind-of start) (c .before .before .if2 .left) (sym (answer coded history long) ∙ c .before .before .before .if1 .taken))
 
@@ -125,7 +125,7 @@ returns-3 c = λ history long.
     let coded = c .before .before in
     let start = coded .before .before .before .before .before in
     let b = start .args .body in
-    let n = start .args .number in
+    let n = start .args .node in
     leaves-as n history _ _ (c .plain2 .result) (c .plain2 .ensures)
     (refused-leaves b (start .pre .0) n history (kindOf (start .args .kind)) (coded .row-code .result)
     (answer coded history long ∙ row-answered b n (node-of start) history (start .args .kind) (kind-of start)) (c .before .if1 .left))
@@ -136,13 +136,13 @@ at-row-spec =
     (tie.spec
     sub-at
     cast-at
-    mul-node
-    element-copy-out-node
+    mul-controller
+    element-copy-out-controller
     mul-stream
     element-copy-out-stream
     row-code-requires
     learn-requires
-    with-node-requires
+    with-controller-requires
     plain-requires
     returns
     row-after-requires

@@ -10,7 +10,7 @@ use Rattle.comparing.proofs.compare_good.Statement.{statement}
 use Rattle.comparing.proofs.compare_good.Tie as tie
 
 -- there is room for every record
-room : (c : tie.Start) → length (take (c .args .other .count) (replicate {A = ℕ} 32762 0)) ≡ c .args .other .count
+room : (c : tie.Start) → length (take (c .args .other .records) (replicate {A = ℕ} 32762 0)) ≡ c .args .other .records
 room c = length-take-le _ _ (let n = length-replicate {A = ℕ} 32762 0 in let t = c .pre .1 in let u = t .good in omega arith)
 
 slice-aggregate-fill-table : tie.Need-slice-aggregate-fill-table

@@ -16,14 +16,14 @@ below h d = omega arith
 row : (c : tie.Start) → c .args .a ≤ length (c .args .places .now)
 row c = let z = c .pre .2 .size in let l = c .pre .4 in let h = c .pre .5 in omega arith
 
-small : (c : tie.Start) (q : ℕ) → q < c .args .other .count → getD (c .args .places .now) q 0 < 32768
+small : (c : tie.Start) (q : ℕ) → q < c .args .other .records → getD (c .args .places .now) q 0 < 32768
 small c q h = let k = c .pre .2 .inside q h in let t = c .pre .1 in let u = t .good in omega arith
 
 -- record a is found
-left : (c : tie.After-find-left) → c .find-left .result ≢ c .before .before .before .before .before .args .other .count → c .find-left .result < length (c .before .before .before .before .before .args .places .now)
+left : (c : tie.After-find-left) → c .find-left .result ≢ c .before .before .before .before .before .args .other .records → c .find-left .result < length (c .before .before .before .before .before .args .places .now)
 left c d = let h = c .find-left .ensures .high in let z = c .before .before .before .before .before .pre .2 .size in omega arith
 
-found-small : (c : tie.After-find-left) → c .find-left .result ≢ c .before .before .before .before .before .args .other .count → getD (c .before .before .before .before .before .args .places .now) (c .find-left .result) 0 < 32768
+found-small : (c : tie.After-find-left) → c .find-left .result ≢ c .before .before .before .before .before .args .other .records → getD (c .before .before .before .before .before .args .places .now) (c .find-left .result) 0 < 32768
 found-small c d = small (c .before .before .before .before .before) _ (let h = left c d in let z = c .before .before .before .before .before .pre .2 .size in omega arith)
 
 read-record-requires : tie.Need-read-record-requires
@@ -41,7 +41,7 @@ returns c =
     let start = found .before .before .before .before .before in
     let x = start .args in
     let z = start .pre .2 .size in
-    c .only-first .ensures ∙ no-second (x .one .nodes) (recordAt (x .first .now)) (recordAt (x .second .now)) (x .one .count) (x .places .now) (x .a) (getD (x .places .now) (x .b) 0) (start .pre .3) (row start) (found .before .read-record .ensures) (found .find-left .ensures) (omega arith)
+    c .only-first .ensures ∙ no-second (x .one .nodes) (recordAt (x .first .now)) (recordAt (x .second .now)) (x .one .records) (x .places .now) (x .a) (getD (x .places .now) (x .b) 0) (start .pre .3) (row start) (found .before .read-record .ensures) (found .find-left .ensures) (omega arith)
 
 mul-place : tie.Need-mul-place
 mul-place c = search needs
@@ -71,7 +71,7 @@ returns-2 c =
     let start = found .before .before .before .before .before in
     let x = start .args in
     c .only-second .ensures
-    ∙ no-first (x .one .nodes) (recordAt (x .first .now)) (recordAt (x .second .now)) (x .one .count) (x .places .now) (x .a) (getD (x .places .now) (x .b) 0) (start .pre .3) (row start) (found .before .read-record .ensures) (found .find-left .ensures) (left found (behind .before .before .before .if1 .left))
+    ∙ no-first (x .one .nodes) (recordAt (x .first .now)) (recordAt (x .second .now)) (x .one .records) (x .places .now) (x .a) (getD (x .places .now) (x .b) 0) (start .pre .3) (row start) (found .before .read-record .ensures) (found .find-left .ensures) (left found (behind .before .before .before .if1 .left))
     (behind .before .read-record2 .ensures) (behind .find-record .ensures) (omega arith)
 
 cast-t17 : tie.Need-cast-t17
@@ -110,7 +110,7 @@ returns-3 c =
     let found = behind .before .before .before .before .before in
     let start = found .before .before .before .before .before in
     let x = start .args in
-    crossed (x .one .nodes) (recordAt (x .first .now)) (recordAt (x .second .now)) (x .one .count) (x .places .now) (x .a) (getD (x .places .now) (x .b) 0) (start .pre .3) (row start) (found .before .read-record .ensures) (found .find-left .ensures) (left found (behind .before .before .before .if1 .left))
+    crossed (x .one .nodes) (recordAt (x .first .now)) (recordAt (x .second .now)) (x .one .records) (x .places .now) (x .a) (getD (x .places .now) (x .b) 0) (start .pre .3) (row start) (found .before .read-record .ensures) (found .find-left .ensures) (left found (behind .before .before .before .if1 .left))
     (behind .before .read-record2 .ensures) (behind .find-record .ensures) (below (behind .find-record .ensures .high) (c .before .if2 .left))
 
 pub hindrance-spec : {M : Type 1} → statement M

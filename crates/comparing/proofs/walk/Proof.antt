@@ -20,31 +20,31 @@ use Rattle.comparing.proofs.walk.Statement.{statement}
 use Rattle.comparing.proofs.walk.Tie as tie
 
 abbrev Inv-loop : tie.InvT-loop
-Inv-loop first one second other letters places₀ table j₀ places j = Walking (one .nodes) (recordAt first) (recordAt second) (one .count) (other .count) places j
+Inv-loop first one second other letters places₀ table j₀ places j = Walking (one .nodes) (recordAt first) (recordAt second) (one .records) (other .records) places j
 
 abbrev μ-loop : tie.MeasureT-loop
-μ-loop first one second other letters places₀ table j₀ places j = one .count - j
+μ-loop first one second other letters places₀ table j₀ places j = one .records - j
 
 -- ---- the loop, at each turn
 
 as-long : (c : tie.At-loop Inv-loop μ-loop) → length (c .loop .places) ≡ length (c .before .before .before .before .before .before .args .places .now)
 as-long c = c .loop .inv .placed .size ∙ sym (ap length (c .before .before .before .before .before .before .pre .3) ∙ length-from 0 _)
 
-place-small : (c : tie.At-loop Inv-loop μ-loop) (q : ℕ) → q < c .before .before .before .before .before .before .args .other .count → getD (c .loop .places) q 0 < 32768
+place-small : (c : tie.At-loop Inv-loop μ-loop) (q : ℕ) → q < c .before .before .before .before .before .before .args .other .records → getD (c .loop .places) q 0 < 32768
 place-small c q h = let k = c .loop .inv .placed .inside q h in let t = c .before .before .before .before .before .before .pre .1 in let u = t .good in omega arith
 
 few : (c : tie.At-loop Inv-loop μ-loop) → c .before .before .before .before .before .before .args .one .nodes ≤ 8
 few c = let t = c .before .before .before .before .before .before .pre .0 in let u = t .good .nodes .upper in omega arith
 
-are : (c : tie.At-loop Inv-loop μ-loop) → let x = c .before .before .before .before .before .before .args in Holds (λ q. letterOf (recordAt (x .second .now) q)) (x .letters .now) (x .other .count)
-are c q h = c .before .before .before .before .before .before .pre .2 .are q (let t = c .before .before .before .before .before .before .pre .1 .count in omega arith)
+are : (c : tie.At-loop Inv-loop μ-loop) → let x = c .before .before .before .before .before .before .args in Holds (λ q. letterOf (recordAt (x .second .now) q)) (x .letters .now) (x .other .records)
+are c q h = c .before .before .before .before .before .before .pre .2 .are q (let t = c .before .before .before .before .before .before .pre .1 .records in omega arith)
 
 -- ---- once it has found where the next record stops
 
 letter-of : (c : tie.After-next-stop Inv-loop μ-loop) → c .before .before .letter .result ≡ letterOf (recordAt (c .before .before .before .before .before .before .before .before .before .before .before .before .args .first .now) (c .before .before .before .before .before .before .loop .j))
 letter-of c = c .before .before .letter .ensures ∙ ap letterOf (c .before .before .before .read-record .ensures)
 
-inside : (c : tie.After-next-stop Inv-loop μ-loop) → c .next-stop .result ≢ c .before .before .before .before .before .before .before .before .before .before .before .before .args .other .count → c .next-stop .result < c .before .before .before .before .before .before .before .before .before .before .before .before .args .other .count
+inside : (c : tie.After-next-stop Inv-loop μ-loop) → c .next-stop .result ≢ c .before .before .before .before .before .before .before .before .before .before .before .before .args .other .records → c .next-stop .result < c .before .before .before .before .before .before .before .before .before .before .before .before .args .other .records
 inside c d = let h = c .next-stop .ensures .high in let z = c .before .before .before .before .before .before .loop .inv .placed .size in omega arith
 
 -- whether the record that is met is the one that is looked for
@@ -56,7 +56,7 @@ loop-holds : tie.Need-loop-holds Inv-loop μ-loop
 loop-holds c =
     let start = c .before .before .before .before .before in
     let x = start .args in
-    subst (λ (l : List ℕ). Walking (x .one .nodes) (recordAt (x .first .now)) (recordAt (x .second .now)) (x .one .count) (x .other .count) l 0) (sym (start .pre .3)) (walk-starts (x .one .nodes) (recordAt (x .first .now)) (recordAt (x .second .now)) (x .one .count) (x .other .count))
+    subst (λ (l : List ℕ). Walking (x .one .nodes) (recordAt (x .first .now)) (recordAt (x .second .now)) (x .one .records) (x .other .records) l 0) (sym (start .pre .3)) (walk-starts (x .one .nodes) (recordAt (x .first .now)) (recordAt (x .second .now)) (x .one .records) (x .other .records))
 
 read-record-requires : tie.Need-read-record-requires Inv-loop μ-loop
 read-record-requires c κs = search needs
@@ -70,7 +70,7 @@ next-stop-requires c κs =
     let p = c .before .before .before .before .before .loop .inv in
     let read = c .before .before .read-record .result in
     let small = letter-small (event (read .kind) (read .node)) in
-    (start .pre .4 .size, omega arith, subst (Placed (c .before .before .before .before .before .loop .places)) (sym (start .pre .2 .size ∙ sym (start .pre .1 .count))) (p .placed), let z = p .placed .size in let r = p .room in omega arith)
+    (start .pre .4 .size, omega arith, subst (Placed (c .before .before .before .before .before .loop .places)) (sym (start .pre .2 .size ∙ sym (start .pre .1 .records))) (p .placed), let z = p .placed .size in let r = p .room in omega arith)
 
 only-first-requires : tie.Need-only-first-requires Inv-loop μ-loop
 only-first-requires c κs = search needs
@@ -83,7 +83,7 @@ returns c =
     let d = c .before .before .before in
     let start = d .before .before .before .before .before .before .before .before .before .before .before .before in
     let x = start .args in
-    c .only-first .ensures ∙ walk-missing (x .one .nodes) (recordAt (x .first .now)) (recordAt (x .second .now)) (x .one .count) (x .other .count) (d .before .before .before .before .before .before .loop .inv) (few (d .before .before .before .before .before .before)) (start .pre .4) (x .letters .now) (are (d .before .before .before .before .before .before)) (d .before .before .before .before .if1 .taken) (letter-of d) (d .next-stop .ensures) (omega arith)
+    c .only-first .ensures ∙ walk-missing (x .one .nodes) (recordAt (x .first .now)) (recordAt (x .second .now)) (x .one .records) (x .other .records) (d .before .before .before .before .before .before .loop .inv) (few (d .before .before .before .before .before .before)) (start .pre .4) (x .letters .now) (are (d .before .before .before .before .before .before)) (d .before .before .before .before .if1 .taken) (letter-of d) (d .next-stop .ensures) (omega arith)
 
 mul-place : tie.Need-mul-place Inv-loop μ-loop
 mul-place c = search needs
@@ -115,7 +115,7 @@ returns-2 c =
     let start = d .before .before .before .before .before .before .before .before .before .before .before .before in
     let x = start .args in
     c .hindrance .ensures
-    ∙ walk-blocked (x .one .nodes) (recordAt (x .first .now)) (recordAt (x .second .now)) (x .one .count) (x .other .count) (d .before .before .before .before .before .before .loop .inv) (few (d .before .before .before .before .before .before)) (start .pre .4) (x .letters .now) (are (d .before .before .before .before .before .before)) (d .before .before .before .before .if1 .taken) (letter-of d) (d .next-stop .ensures) (inside d (c .before .before .before .before .before .before .if2 .left)) (same (c .before .before .before) ∙ not-true _ (c .before .before .if3 .taken))
+    ∙ walk-blocked (x .one .nodes) (recordAt (x .first .now)) (recordAt (x .second .now)) (x .one .records) (x .other .records) (d .before .before .before .before .before .before .loop .inv) (few (d .before .before .before .before .before .before)) (start .pre .4) (x .letters .now) (are (d .before .before .before .before .before .before)) (d .before .before .before .before .if1 .taken) (letter-of d) (d .next-stop .ensures) (inside d (c .before .before .before .before .before .before .if2 .left)) (same (c .before .before .before) ∙ not-true _ (c .before .before .if3 .taken))
 
 take-requires : tie.Need-take-requires Inv-loop μ-loop
 take-requires c κs =
@@ -136,7 +136,7 @@ loop-again c =
     let d = c .before .before .before .before .before .before .before .before .before .before in
     let start = d .before .before .before .before .before .before .before .before .before .before .before .before in
     let x = start .args in
-    walk-takes (x .one .nodes) (recordAt (x .first .now)) (recordAt (x .second .now)) (x .one .count) (x .other .count) (d .before .before .before .before .before .before .loop .inv) (few (d .before .before .before .before .before .before)) (start .pre .4) (x .letters .now) (are (d .before .before .before .before .before .before)) (d .before .before .before .before .if1 .taken) (letter-of d) (d .next-stop .ensures) (inside d (c .before .before .before .before .before .before .before .before .if2 .left)) (c .before .before .take .ensures) (same (c .before .before .before .before .before) ∙ not-false _ (c .before .before .before .before .if3 .left))
+    walk-takes (x .one .nodes) (recordAt (x .first .now)) (recordAt (x .second .now)) (x .one .records) (x .other .records) (d .before .before .before .before .before .before .loop .inv) (few (d .before .before .before .before .before .before)) (start .pre .4) (x .letters .now) (are (d .before .before .before .before .before .before)) (d .before .before .before .before .if1 .taken) (letter-of d) (d .next-stop .ensures) (inside d (c .before .before .before .before .before .before .before .before .if2 .left)) (c .before .before .take .ensures) (same (c .before .before .before .before .before) ∙ not-false _ (c .before .before .before .before .if3 .left))
 
 mul-only-second : tie.Need-mul-only-second Inv-loop μ-loop
 mul-only-second c = search needs
@@ -154,13 +154,13 @@ same-length-3 : tie.Need-same-length-3 Inv-loop μ-loop
 same-length-3 c = as-long (c .before .before .before .before .before .before)
 
 returns-3 : tie.Need-returns-3 Inv-loop μ-loop
-returns-3 c = let x = c .before .before .before .before .before .before .before .before .before .before .before .before .args in c .only-second .ensures ∙ walk-left (x .one .nodes) (recordAt (x .first .now)) (recordAt (x .second .now)) (x .one .count) (x .other .count) (c .before .before .before .before .before .before .loop .inv) (c .before .before .before .before .if1 .left) (c .before .before .if4 .taken)
+returns-3 c = let x = c .before .before .before .before .before .before .before .before .before .before .before .before .args in c .only-second .ensures ∙ walk-left (x .one .nodes) (recordAt (x .first .now)) (recordAt (x .second .now)) (x .one .records) (x .other .records) (c .before .before .before .before .before .before .loop .inv) (c .before .before .before .before .if1 .left) (c .before .before .if4 .taken)
 
 same-length-4 : tie.Need-same-length-4 Inv-loop μ-loop
 same-length-4 c = as-long (c .before .before .before .before)
 
 returns-4 : tie.Need-returns-4 Inv-loop μ-loop
-returns-4 c = let x = c .before .before .before .before .before .before .before .before .before .before .args in walk-same (x .one .nodes) (recordAt (x .first .now)) (recordAt (x .second .now)) (x .one .count) (x .other .count) (c .before .before .before .before .loop .inv) (c .before .before .if1 .left) (c .if4 .left)
+returns-4 c = let x = c .before .before .before .before .before .before .before .before .before .before .args in walk-same (x .one .nodes) (recordAt (x .first .now)) (recordAt (x .second .now)) (x .one .records) (x .other .records) (c .before .before .before .before .loop .inv) (c .before .before .if1 .left) (c .if4 .left)
 
 pub walk-spec : {M : Type 1} → statement M
 walk-spec =

@@ -10,11 +10,11 @@ is-service-requires c κs = search needs
 is-switch-requires : tie.Need-is-switch-requires
 is-switch-requires c κs = search needs
 
-is-node-requires : tie.Need-is-node-requires
-is-node-requires c κs = search needs
+is-node-kind-requires : tie.Need-is-node-kind-requires
+is-node-kind-requires c κs = search needs
 
-is-node-requires-2 : tie.Need-is-node-requires-2
-is-node-requires-2 c κs = search needs
+is-node-kind-requires-2 : tie.Need-is-node-kind-requires-2
+is-node-kind-requires-2 c κs = search needs
 
 is-message-requires : tie.Need-is-message-requires
 is-message-requires c κs = search needs
@@ -38,8 +38,8 @@ returns : tie.Need-returns
 returns c = rw by-lines (simp (
   c .before .before .before .before .before .before .before .before .before .is-service .ensures,
   c .before .before .before .before .before .before .before .before .is-switch .ensures,
-  c .before .before .before .before .before .before .before .is-node .ensures,
-  c .before .before .before .before .before .before .is-node2 .ensures,
+  c .before .before .before .before .before .before .before .is-node-kind .ensures,
+  c .before .before .before .before .before .before .is-node-kind2 .ensures,
   c .before .before .before .before .before .is-message .ensures,
   c .before .before .before .before .is-learn .ensures,
   c .before .before .before .is-send .ensures,
@@ -54,8 +54,8 @@ listed-spec =
     (tie.spec
     is-service-requires
     is-switch-requires
-    is-node-requires
-    is-node-requires-2
+    is-node-kind-requires
+    is-node-kind-requires-2
     is-message-requires
     is-learn-requires
     is-send-requires

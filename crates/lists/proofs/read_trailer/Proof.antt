@@ -16,7 +16,7 @@ use Rattle.lists.proofs.read_trailer.Tie as tie
 long : (c : tie.Then1) → trailerLength ≤ length (c .before .before .before .args .list .now)
 long c = good _ (sym (c .before .refusal .ensures) ∙ c .if1 .taken) .size .lower
 
-refused : (code : ℕ) (l : List ℕ) → code ≢ 0 → _≡_ {A = Trailer} (record { code = code; first = 0; count = 0; nodes = 0 }) (answered code l)
+refused : (code : ℕ) (l : List ℕ) → code ≢ 0 → _≡_ {A = Trailer} (record { code = code; first = 0; records = 0; nodes = 0 }) (answered code l)
 refused zero l n = absurd (n refl)
 refused (suc code) l n = refl
 

@@ -26,7 +26,7 @@ returns : tie.Need-returns
 returns c =
     let start = c .before .before .before .before .before in
     let a = start .args in
-    sets-part (a .count) (a .out .now) (entryBytes (record { node = a .node; term = a .term .0 })) (4 * a .at) _ (let h = start .pre in omega arith) (c .before .before .put-entry .ensures)
+    sets-part (a .answers) (a .out .now) (entryBytes (record { node = a .node; term = a .term .0 })) (4 * a .at) _ (let h = start .pre in omega arith) (c .before .before .put-entry .ensures)
 
 pub write-entry-spec : {M : Type 1} → statement M
 write-entry-spec =

@@ -2,7 +2,7 @@
 use Prim.Native.Nat.{_/_, _%_}
 use native.Mathlib.Omega.{arith}
 use lib.ListN.{length-set}
-use Rattle.merging.specs.Telling.{two-stores}
+use Rattle.merging.specs.Replies.{two-stores}
 use borrow.Author.Needs.{needs}
 use Rattle.merging.proofs.put_place.Statement.{statement}
 use Rattle.merging.proofs.put_place.Tie as tie

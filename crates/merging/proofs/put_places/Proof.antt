@@ -3,8 +3,8 @@ use mathlib.Core.Path.{ap, _∙_}
 use mathlib.Core.List.{List}
 use Prim.Native.Nat.{ℕ}
 use lib.Seq.{sets}
-use Rattle.merging.specs.Told.{twoBytes}
-use Rattle.merging.specs.Telling.{four-places}
+use Rattle.merging.specs.Reply.{twoBytes}
+use Rattle.merging.specs.Replies.{four-places}
 use borrow.Author.Needs.{needs}
 use Rattle.merging.proofs.put_places.Statement.{statement}
 use Rattle.merging.proofs.put_places.Tie as tie

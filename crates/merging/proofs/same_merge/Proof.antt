@@ -4,8 +4,8 @@ use Prim.Native.Nat.{_≤_, _<_}
 use Rattle.lists.specs.EventList.{over}
 use Rattle.comparing.specs.declared.Finding.{Finding}
 use Rattle.comparing.specs.Refusing.{code-is, code-bad, code-good}
-use Rattle.merging.specs.Told.{placeBytes}
-use Rattle.merging.specs.Telling.{told-short, told-first, told-places, told-refused, told-both}
+use Rattle.merging.specs.Reply.{placeBytes}
+use Rattle.merging.specs.Replies.{reply-short, reply-first, reply-places, reply-refused, reply-both}
 use borrow.Author.Needs.{needs}
 use Rattle.merging.proofs.same_merge.Statement.{statement}
 use Rattle.merging.proofs.same_merge.Tie as tie
@@ -17,7 +17,7 @@ cast-result : tie.Need-cast-result
 cast-result c = search needs
 
 returns : tie.Need-returns
-returns c = told-both (told-short _ _ _ (c .before .before .before .if1 .taken) (code-good _ _ (c .before .before .read-trailer .ensures) (c .if2 .taken)))
+returns c = reply-both (reply-short _ _ _ (c .before .before .before .if1 .taken) (code-good _ _ (c .before .before .read-trailer .ensures) (c .if2 .taken)))
 
 cast-result-2 : tie.Need-cast-result-2
 cast-result-2 c = search needs
@@ -25,7 +25,7 @@ cast-result-2 c = search needs
 returns-2 : tie.Need-returns-2
 returns-2 c =
     let e = c .before .before .before .read-trailer .ensures in
-    let is = told-both (told-first _ _ _ (c .before .before .before .before .if1 .taken) (code-bad _ _ e (c .before .if2 .left))) in
+    let is = reply-both (reply-first _ _ _ (c .before .before .before .before .if1 .taken) (code-bad _ _ e (c .before .if2 .left))) in
     (code-is _ _ e ∙ is .0, is .1)
 
 compare-requires : tie.Need-compare-requires
@@ -41,13 +41,13 @@ returns-3 : tie.Need-returns-3
 returns-3 c =
     let x = c .before .before .before .before .before .before .before .before .before .before .before .args in
     let e = c .before .before .before .before .before .before .compare .ensures in
-    let is = told-both (told-places _ _ _ (c .before .before .before .before .before .before .before .if1 .left) (subst (λ (f : Finding). 256 ≤ f .verdict) e (c .before .before .before .before .if3 .taken))) in
+    let is = reply-both (reply-places _ _ _ (c .before .before .before .before .before .before .before .if1 .left) (subst (λ (f : Finding). 256 ≤ f .verdict) e (c .before .before .before .before .if3 .taken))) in
     (ap (λ (f : Finding). f .verdict) e ∙ is .0, c .before .before .put-places .ensures ∙ ap (λ (f : Finding). over (placeBytes f) (x .places .now)) e ∙ is .1)
 
 returns-4 : tie.Need-returns-4
 returns-4 c =
     let e = c .before .before .compare .ensures in
-    let is = told-both (told-refused _ _ _ (c .before .before .before .if1 .left) (subst (λ (f : Finding). f .verdict < 256) e (c .if3 .left))) in
+    let is = reply-both (reply-refused _ _ _ (c .before .before .before .if1 .left) (subst (λ (f : Finding). f .verdict < 256) e (c .if3 .left))) in
     (ap (λ (f : Finding). f .verdict) e ∙ is .0, is .1)
 
 pub same-merge-spec : {M : Type 1} → statement M

@@ -10,7 +10,7 @@ element-copy-out-head c = search needs
 term-of-requires : tie.Need-term-of-requires
 term-of-requires c κs =
     let start = c .before .before .before .before .before .before .before .before .before in
-    flag-small (start .args .count) (start .args .number) (start .args .node) (start .args .stream) (start .pre)
+    flag-small (start .args .count) (start .args .node) (start .args .controller) (start .args .stream) (start .pre)
 
 is-ok-requires : tie.Need-is-ok-requires
 is-ok-requires c κs = search needs
@@ -22,23 +22,23 @@ returns c =
     let at-if2 = at-term-of .before in
     let at-if1 = at-if2 .before .before .before in
     let start = at-if1 .before .before .before .before .before .before in
-    let a = start .args in flag-ok (a .count) (a .number) (a .node) (a .stream) (start .pre) (at-if1 .if1 .taken) (at-if2 .if2 .taken) (at-term-of .term-of .result .0) (at-term-of .term-of .ensures) (at-if3 .if3 .taken) (c .is-ok .result) (c .is-ok .ensures)
+    let a = start .args in flag-ok (a .count) (a .node) (a .controller) (a .stream) (start .pre) (at-if1 .if1 .taken) (at-if2 .if2 .taken) (at-term-of .term-of .result .0) (at-term-of .term-of .ensures) (at-if3 .if3 .taken) (c .is-ok .result) (c .is-ok .ensures)
 
 returns-2 : tie.Need-returns-2
 returns-2 c =
     let at-term-of = c .before .before .before in
     let start = at-term-of .before .before .before .before .before .before .before .before .before .before in
-    let a = start .args in flag-other-id (a .count) (a .number) (a .node) (a .stream) (start .pre) (at-term-of .term-of .result .0) (at-term-of .term-of .ensures) (c .if3 .left)
+    let a = start .args in flag-other-id (a .count) (a .node) (a .controller) (a .stream) (start .pre) (at-term-of .term-of .result .0) (at-term-of .term-of .ensures) (c .if3 .left)
 
 returns-3 : tie.Need-returns-3
 returns-3 c =
     let start = c .before .before .before .before .before .before .before .before .before in
-    let a = start .args in flag-other-term (a .count) (a .number) (a .node) (a .stream) (start .pre) (c .if2 .left)
+    let a = start .args in flag-other-term (a .count) (a .node) (a .controller) (a .stream) (start .pre) (c .if2 .left)
 
 returns-4 : tie.Need-returns-4
 returns-4 c =
     let start = c .before .before .before .before .before .before in
-    let a = start .args in flag-other-master (a .count) (a .number) (a .node) (a .stream) (start .pre) (c .if1 .left)
+    let a = start .args in flag-other-master (a .count) (a .node) (a .controller) (a .stream) (start .pre) (c .if1 .left)
 
 pub confirmed-spec : {M : Type 1} → statement M
 confirmed-spec =

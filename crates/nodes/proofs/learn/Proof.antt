@@ -17,11 +17,11 @@ returns : tie.Need-returns
 unfolding learnRule
 returns c =
     let start = c .before .before .before in
-    let q = start .args .node .events in
+    let q = start .args .controller .events in
     λ i. record {
       events = (c .pop .ensures ∙ pop-events q (start .pre .events)) i;
       learned = head-event q (start .pre .events) i;
-      says = start .args .node .says;
+      says = start .args .controller .says;
     }
 
 pub learn-spec : {M : Type 1} → statement M

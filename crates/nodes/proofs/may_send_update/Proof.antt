@@ -16,10 +16,10 @@ returns c =
     let at-if2 = c .before in
     let at-if1 = at-if2 .before .before .before in
     let start = at-if1 .before .before in
-    simp (at-if1 .if1 .taken, lt-ltb _ _ (at-if2 .if2 .taken), lt-ltb 0 (start .args .node .learned .term .0) (omega arith)) (c .names .ensures)
+    simp (at-if1 .if1 .taken, lt-ltb _ _ (at-if2 .if2 .taken), lt-ltb 0 (start .args .controller .learned .term .0) (omega arith)) (c .names .ensures)
 
 returns-2 : tie.Need-returns-2
-returns-2 c = let a = c .before .before .before .before .before .args in update-sent (a .count) (a .number) (a .node) (a .stream) (c .if2 .left)
+returns-2 c = let a = c .before .before .before .before .before .args in update-sent (a .count) (a .node) (a .controller) (a .stream) (c .if2 .left)
 
 returns-3 : tie.Need-returns-3
 unfolding sendUpdateRule

@@ -10,10 +10,10 @@ unfolding sendWriteRule
 returns c = simp (c .before .before .before .before .if1 .taken, lt-ltb _ _ (c .before .before .if2 .taken), eq-eqb _ _ (c .if3 .taken))
 
 returns-2 : tie.Need-returns-2
-returns-2 c = let a = c .before .before .before .before .before .before .args in write-other (a .count) (a .number) (a .node) (a .stream) (c .if3 .left)
+returns-2 c = let a = c .before .before .before .before .before .before .args in write-other (a .count) (a .node) (a .controller) (a .stream) (c .if3 .left)
 
 returns-3 : tie.Need-returns-3
-returns-3 c = let a = c .before .before .before .before .args in write-untermed (a .count) (a .number) (a .node) (a .stream) (c .if2 .left)
+returns-3 c = let a = c .before .before .before .before .args in write-untermed (a .count) (a .node) (a .controller) (a .stream) (c .if2 .left)
 
 returns-4 : tie.Need-returns-4
 unfolding sendWriteRule

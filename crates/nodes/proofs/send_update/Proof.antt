@@ -26,13 +26,13 @@ returns c =
     let start = c .before .before .before .before .before .before in
     let a = start .args in
     let s = a .stream in
-    let asked : ℕ → S.Request = λ id. record { message = S.update; id = id; term = a .node .learned .term .0 } in
+    let asked : ℕ → S.Request = λ id. record { message = S.update; id = id; term = a .controller .learned .term .0 } in
     λ i. record {
       opened = s .opened;
-      sent = a .node .learned .term;
+      sent = a .controller .learned .term;
       requests =
           (c .push .ensures
-          ∙ ap (λ (id : ℕ). pushRequest (s .requests) (packRequest (asked id))) (c .before .before .election-id .ensures ∙ ap (electionId (a .count) (a .node .learned .term .0)) (c .before .before .before .place-of .ensures))
+          ∙ ap (λ (id : ℕ). pushRequest (s .requests) (packRequest (asked id))) (c .before .before .election-id .ensures ∙ ap (electionId (a .count) (a .controller .learned .term .0)) (c .before .before .before .place-of .ensures))
           ∙ push-requests (s .requests) (asked _) (start .pre .0 .requests) (start .pre .1)) i;
       responses = s .responses;
     }

@@ -22,7 +22,7 @@ returns c =
     let start = c .before .before .before .before .before in
     let a = start .args in
     let s = a .stream in
-    let asked : ℕ → S.Request = λ id. record { message = S.write; id = id; term = a .node .learned .term .0 } in
+    let asked : ℕ → S.Request = λ id. record { message = S.write; id = id; term = a .controller .learned .term .0 } in
     λ i. record {
       opened = s .opened;
       sent = s .sent;

@@ -8,10 +8,10 @@ use Rattle.packed.proofs.put_little.Statement.{statement}
 use Rattle.packed.proofs.put_little.Tie as tie
 
 abbrev Inv-loop : tie.InvT-loop
-Inv-loop buf₀ at count v next₀ left₀ i₀ buf next left i = Putting buf₀ at count v buf next left i
+Inv-loop buf₀ at size v next₀ left₀ i₀ buf next left i = Putting buf₀ at size v buf next left i
 
 abbrev μ-loop : tie.MeasureT-loop
-μ-loop buf₀ at count v next₀ left₀ i₀ buf next left i = count - i
+μ-loop buf₀ at size v next₀ left₀ i₀ buf next left i = size - i
 
 loop-holds : tie.Need-loop-holds Inv-loop μ-loop
 loop-holds c = putting-starts _ _ _ _

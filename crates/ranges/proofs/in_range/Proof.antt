@@ -6,7 +6,7 @@ use Rattle.rules.specs.Limits.{mostNodes}
 use Rattle.laws.specs.Tests.{is-yes, is-within}
 use Rattle.state.specs.Tidy.{stateFits}
 use Rattle.bridge.proofs.Sizes.{sized}
-use Rattle.queues.specs.Each.{told}
+use Rattle.queues.specs.Each.{from-result}
 use Rattle.ranges.specs.Tests.{stateTest}
 use Rattle.ranges.specs.Agree.{state-agree}
 use Rattle.ranges.proofs.in_range.Statement.{statement}
@@ -19,7 +19,7 @@ is-node-requires : tie.Need-is-node-requires
 is-node-requires c κs = search needs
 
 core-fits-requires : tie.Need-core-fits-requires
-core-fits-requires c κs = is-within 1 mostNodes _ .to (is-yes _ .from (told (c .before .is-node .ensures) (c .if1 .taken))) .upper
+core-fits-requires c κs = is-within 1 mostNodes _ .to (is-yes _ .from (from-result (c .before .is-node .ensures) (c .if1 .taken))) .upper
 
 history-fits-requires : tie.Need-history-fits-requires
 history-fits-requires c κs = search needs
@@ -29,23 +29,23 @@ unfolding stateTest
 returns c =
     let start = c .before .before .before .before .before .before .before in
     let core = c .before .before in
-    let count = told (core .before .before .is-node .ensures) (core .before .if1 .taken) in
-    let e : c .history-fits .result ≡ stateTest (start .args .s) = simp (count, told (core .core-fits .ensures) (c .before .if2 .taken)) (c .history-fits .ensures) in
+    let count = from-result (core .before .before .is-node .ensures) (core .before .if1 .taken) in
+    let e : c .history-fits .result ≡ stateTest (start .args .s) = simp (count, from-result (core .core-fits .ensures) (c .before .if2 .taken)) (c .history-fits .ensures) in
     e ∙ same start
 
 returns-2 : tie.Need-returns-2
 unfolding stateTest
 returns-2 c =
     let start = c .before .before .before .before .before .before in
-    let count = told (c .before .before .before .is-node .ensures) (c .before .before .if1 .taken) in
-    let e : false ≡ stateTest (start .args .s) = simp (count, told (c .before .core-fits .ensures) (c .if2 .left)) in
+    let count = from-result (c .before .before .before .is-node .ensures) (c .before .before .if1 .taken) in
+    let e : false ≡ stateTest (start .args .s) = simp (count, from-result (c .before .core-fits .ensures) (c .if2 .left)) in
     e ∙ same start
 
 returns-3 : tie.Need-returns-3
 unfolding stateTest
 returns-3 c =
     let start = c .before .before .before .before in
-    let e : false ≡ stateTest (start .args .s) = simp (told (c .before .is-node .ensures) (c .if1 .left)) in
+    let e : false ≡ stateTest (start .args .s) = simp (from-result (c .before .is-node .ensures) (c .if1 .left)) in
     e ∙ same start
 
 pub in-range-spec : {M : Type 1} → statement M

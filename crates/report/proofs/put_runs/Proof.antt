@@ -81,8 +81,8 @@ returns c =
     let mine = run .last .1 .1 .0 in
     let theirs = run2 .last .1 .1 .0 in
     let put = put-both (run .ensures) (run2 .ensures)
-    (take-all (length mine - x .one .count) (drop (x .one .count) mine) (simp length-drop (omega arith)))
-    (take-all (length theirs - x .other .count) (drop (x .other .count) theirs) (simp length-drop (omega arith)))
+    (take-all (length mine - x .one .records) (drop (x .one .records) mine) (simp length-drop (omega arith)))
+    (take-all (length theirs - x .other .records) (drop (x .other .records) theirs) (simp length-drop (omega arith)))
     (c .before .before .before .before .difference .ensures) (c .before .before .before .before .before .before .before .before .before .before .before .put-line .ensures .0) (c .before .before .put-parting .ensures .0) in
     let line = c .before .before .before .before .before .before .before .before .before .before .before .put-line .ensures .1 in
     let last = c .before .before .put-parting .ensures .1 in

@@ -8,12 +8,12 @@ use Rattle.report.proofs.run_good.Statement.{statement}
 use Rattle.report.proofs.run_good.Tie as tie
 
 ended : (c : tie.After-slice-known2) → let run = c .before .before .run in let x = c .before .before .before .before .before .before .args in
-    (noWrites ≤ run .result) × Written (x .list .now) (x .trailer .count) (run .last .1 .0) (run .result - noWrites)
+    (noWrites ≤ run .result) × Written (x .list .now) (x .trailer .records) (run .last .1 .0) (run .result - noWrites)
 ended c =
     let run = c .before .before .run in
     let start = c .before .before .before .before .before .before in
     let known = start .pre .0 in
-    rw (known .count) (written-run (start .args .list .now) (start .args .out .now) (run .last .1 .0) (run .result) (known .none) (omega arith) (run .ensures .0) (run .ensures .1))
+    rw (known .records) (written-run (start .args .list .now) (start .args .out .now) (run .last .1 .0) (run .result) (known .none) (omega arith) (run .ensures .0) (run .ensures .1))
 
 run-requires : tie.Need-run-requires
 run-requires c κs = search needs

@@ -8,25 +8,25 @@ use native.Mathlib.Omega.{arith}
 use Rattle.rules.specs.Step.{Event, fresh}
 use Rattle.state.specs.declared.Body.{Body}
 use Rattle.state.specs.declared.Table.{Table}
-use Rattle.moves.specs.Sets.{withWire}
-use Rattle.moves.specs.Stored.{few, in-order-nodes}
+use Rattle.moves.specs.Sets.{withBoard}
+use Rattle.moves.specs.Stored.{few, in-order-controllers}
 use Rattle.asks.specs.declared.Ask.{Ask}
-use Rattle.asks.specs.Classes.{atRow, atDesk}
+use Rattle.asks.specs.Groups.{atRow, atDesk}
 use Rattle.turns.specs.Called.{askOf}
 use Rattle.turns.specs.At.{At}
-use Rattle.turns.specs.Nodes.{node-ordered}
+use Rattle.turns.specs.Nodes.{controller-ordered}
 use Rattle.runner.specs.Tables.{bodyIn, pending, settled, heard}
 use Rattle.runner.specs.Running.{Running, starts, keeps-length, ready, ends}
-use Rattle.runner.specs.Turning.{Coded, of-row, of-desk, of-wire, Turn, in-range, refused-way, at-row, asks-row, goes-row, learn-way, row-room, row-way, goes-desk, post-way, quiet-way, asks-wire, goes-wire, wire-way, same-body, unposted}
+use Rattle.runner.specs.Turning.{Coded, of-row, of-desk, of-board, Turn, in-range, refused-way, at-row, asks-row, goes-row, learn-way, row-room, row-way, goes-desk, post-way, quiet-way, asks-board, goes-board, board-way, same-body, unposted}
 use borrow.Author.Needs.{needs}
 use Rattle.runner.proofs.run_records.Statement.{statement}
 use Rattle.runner.proofs.run_records.Tie as tie
 
 abbrev Inv-loop : tie.InvT-loop
-Inv-loop list trailer out₀ table₀ told₀ writes₀ i₀ out table told writes i = (i ≤ trailer .count) × (told ≤ table .count) × Running list out₀ i out (pending table told) writes
+Inv-loop list trailer out₀ table₀ reached₀ writes₀ i₀ out table reached writes i = (i ≤ trailer .records) × (reached ≤ table .count) × Running list out₀ i out (pending table reached) writes
 
 abbrev μ-loop : tie.MeasureT-loop
-μ-loop list trailer out₀ table₀ told₀ writes₀ i₀ out table told writes i = 16 * (trailer .count - i) + (table .count - told)
+μ-loop list trailer out₀ table₀ reached₀ writes₀ i₀ out table reached writes i = 16 * (trailer .records - i) + (table .count - reached)
 
 fresh-count : (n : ℕ) → fresh n .count ≡ n
 unfolding fresh
@@ -35,16 +35,16 @@ fresh-count n = refl
 few-nodes : (l : tie.At-loop Inv-loop μ-loop) → l .loop .table .count ≤ 8
 few-nodes l =
     let s = l .before .before .before .before in
-    few (pending (l .loop .table) (l .loop .told)) (ready (s .args .out .now) (s .pre) (l .loop .inv .2))
+    few (pending (l .loop .table) (l .loop .reached)) (ready (s .args .out .now) (s .pre) (l .loop .inv .2))
 
 long-as-lent : (l : tie.At-loop Inv-loop μ-loop) → length (l .loop .out) ≡ length (l .before .before .before .before .args .out .now)
 long-as-lent l =
     let s = l .before .before .before .before in
-    let k = s .pre .trailer .count in
+    let k = s .pre .trailer .records in
     keeps-length (s .args .out .now) (s .pre) (l .loop .inv .2) (omega arith)
 
-fewer : (count i nodes told : ℕ) → i < count → 16 * (count - (i + 1)) + (nodes - told) < 16 * (count - i) + (nodes - told)
-fewer count i nodes told h = omega arith
+fewer : (total i nodes reached : ℕ) → i < total → 16 * (total - (i + 1)) + (nodes - reached) < 16 * (total - i) + (nodes - reached)
+fewer total i nodes reached h = omega arith
 
 -- ---- a turn that reads a record
 
@@ -58,23 +58,23 @@ abbrev ask-of : tie.After-read-record Inv-loop μ-loop → Ask
 ask-of r = askOf (bodyIn (table-of r)) (event-of r .kind) (event-of r .node)
 
 turn : (r : tie.After-read-record Inv-loop μ-loop) → let l = r .before .before .before .before in let s = l .before .before .before .before in
-    Turn (s .args .list .now) (s .args .trailer) (s .args .out .now) (l .loop .i) (l .loop .writes) (l .loop .out) (table-of r) (l .loop .told) (event-of r)
+    Turn (s .args .list .now) (s .args .trailer) (s .args .out .now) (l .loop .i) (l .loop .writes) (l .loop .out) (table-of r) (l .loop .reached) (event-of r)
 turn r =
     let l = r .before .before .before .before in
     let s = l .before .before .before .before in
-    let k = s .pre .trailer .count in
+    let k = s .pre .trailer .records in
     record { runs = s .pre; now = l .loop .inv .2; all = omega arith; is = r .read-record .ensures; lt = omega arith }
 
--- its answer, by its class
+-- its answer, by its group
 coded : (j : tie.Joined3 Inv-loop μ-loop) → let r = j .before .before in Coded (table-of r) (event-of r) (r .before .before .before .before .loop .writes) (j .if3 .code)
 coded j =
     let row = sym (j .before .at-row .ensures) in
     ⊎-elim (λ x. of-row (row ∙ x .0 .taken) (x .6 ∙ x .5 .ensures))
     (λ y. ⊎-elim (λ x. of-desk (row ∙ x .0 .left) (sym (x .1 .ensures) ∙ x .2 .taken) (x .6 ∙ x .5 .ensures))
-    (λ x. of-wire (row ∙ x .0 .left) (sym (x .1 .ensures) ∙ x .2 .left) (x .6 ∙ x .5 .ensures)) y)
+    (λ x. of-board (row ∙ x .0 .left) (sym (x .1 .ensures) ∙ x .2 .left) (x .6 ∙ x .5 .ensures)) y)
     (j .if3 .came)
 
--- ---- the class, where the answer is asked for and where it is 0
+-- ---- the group, where the answer is asked for and where it is 0
 
 is-row : (g : tie.Then3 Inv-loop μ-loop) → atRow (ask-of (g .before .before)) ≡ true
 is-row g = sym (g .before .at-row .ensures) ∙ g .if3 .taken
@@ -115,13 +115,13 @@ cast-at c =
     let f = few-nodes (c .before .before .before) in
     omega arith
 
-mul-node : tie.Need-mul-node Inv-loop μ-loop
-mul-node c =
+mul-controller : tie.Need-mul-controller Inv-loop μ-loop
+mul-controller c =
     let f = few-nodes (c .before .before .before) in
     omega arith
 
-element-copy-out-node : tie.Need-element-copy-out-node Inv-loop μ-loop
-element-copy-out-node c =
+element-copy-out-controller : tie.Need-element-copy-out-controller Inv-loop μ-loop
+element-copy-out-controller c =
     let f = few-nodes (c .before .before .before) in
     omega arith
 
@@ -138,8 +138,8 @@ element-set-from-table c =
     let f = few-nodes (c .before .before .before .before .before .before) in
     omega arith
 
-add-told : tie.Need-add-told Inv-loop μ-loop
-add-told c =
+add-reached : tie.Need-add-reached Inv-loop μ-loop
+add-reached c =
     let f = few-nodes (c .before .before .before .before .before .before) in
     omega arith
 
@@ -151,7 +151,7 @@ loop-less c =
 loop-again : tie.Need-loop-again Inv-loop μ-loop
 loop-again c =
     let l = c .before .before .before .before .before .before in
-    let same = heard (l .loop .table) (l .loop .told) (c .hear .result) (c .hear .ensures) (omega arith) in
+    let same = heard (l .loop .table) (l .loop .reached) (c .hear .result) (c .hear .ensures) (omega arith) in
     (l .loop .inv .0, omega arith, same-body same (l .loop .inv .2))
 
 read-record-requires : tie.Need-read-record-requires Inv-loop μ-loop
@@ -170,13 +170,13 @@ cast-at-2 c =
     let a = node-first (c .before) in
     omega arith
 
-mul-node-2 : tie.Need-mul-node-2 Inv-loop μ-loop
-mul-node-2 c =
+mul-controller-2 : tie.Need-mul-controller-2 Inv-loop μ-loop
+mul-controller-2 c =
     let a = node-first (c .before) in
     omega arith
 
-element-copy-out-node-2 : tie.Need-element-copy-out-node-2 Inv-loop μ-loop
-element-copy-out-node-2 c =
+element-copy-out-controller-2 : tie.Need-element-copy-out-controller-2 Inv-loop μ-loop
+element-copy-out-controller-2 c =
     let a = node-first (c .before) in
     omega arith
 
@@ -197,12 +197,12 @@ at-desk-requires : tie.Need-at-desk-requires Inv-loop μ-loop
 at-desk-requires c κs = search needs
 
 desk-code-requires : tie.Need-desk-code-requires Inv-loop μ-loop
-desk-code-requires c κs = in-order-nodes _ (in-range (turn (c .before .before .before .before .before .before)))
+desk-code-requires c κs = in-order-controllers _ (in-range (turn (c .before .before .before .before .before .before)))
 
-wire-code-requires : tie.Need-wire-code-requires Inv-loop μ-loop
-wire-code-requires c κs =
+board-code-requires : tie.Need-board-code-requires Inv-loop μ-loop
+board-code-requires c κs =
     let g = c .before .before .before .before in
-    asks-wire (turn (g .before .before)) (sym (g .before .at-row .ensures) ∙ g .if3 .left) (sym (c .before .before .before .at-desk .ensures) ∙ c .before .before .if4 .left)
+    asks-board (turn (g .before .before)) (sym (g .before .at-row .ensures) ∙ g .if3 .left) (sym (c .before .before .before .at-desk .ensures) ∙ c .before .before .if4 .left)
 
 slice-write-out : tie.Need-slice-write-out Inv-loop μ-loop
 slice-write-out c =
@@ -238,18 +238,18 @@ cast-at-3 c =
     let a = node-again (c .before) in
     omega arith
 
-mul-node-3 : tie.Need-mul-node-3 Inv-loop μ-loop
-mul-node-3 c =
+mul-controller-3 : tie.Need-mul-controller-3 Inv-loop μ-loop
+mul-controller-3 c =
     let a = node-again (c .before) in
     omega arith
 
-element-copy-out-node-3 : tie.Need-element-copy-out-node-3 Inv-loop μ-loop
-element-copy-out-node-3 c =
+element-copy-out-controller-3 : tie.Need-element-copy-out-controller-3 Inv-loop μ-loop
+element-copy-out-controller-3 c =
     let a = node-again (c .before) in
     omega arith
 
 learn-requires : tie.Need-learn-requires Inv-loop μ-loop
-learn-requires c κs = node-ordered _ _ (node-again (c .before .before .before .before))
+learn-requires c κs = controller-ordered _ _ (node-again (c .before .before .before .before))
 
 mul-t67 : tie.Need-mul-t67 Inv-loop μ-loop
 mul-t67 c =
@@ -328,7 +328,7 @@ loop-less-4 : tie.Need-loop-less-4 Inv-loop μ-loop
 loop-less-4 c =
     let r = c .before .before .before .before .before .before .before .before .before .before .before .before .before .before .before .before .before .before .before .before in
     let l = r .before .before .before .before in
-    fewer (l .before .before .before .before .args .trailer .count) (l .loop .i) (l .loop .table .count) (l .loop .told) (r .before .before .if1 .taken)
+    fewer (l .before .before .before .before .args .trailer .records) (l .loop .i) (l .loop .table .count) (l .loop .reached) (r .before .before .if1 .taken)
 
 loop-again-4 : tie.Need-loop-again-4 Inv-loop μ-loop
 loop-again-4 c =
@@ -382,13 +382,13 @@ loop-again-6 c =
     let x = c .before .before .service-after in
     (omega arith, omega arith, unposted _ _ (h .all) (quiet-way h (no-row (g .before .before)) (desk-again g) (j .if3 .code) (coded j) done (x .result) (x .ensures) (sym (c .before .posts .ensures) ∙ c .if9 .left)))
 
-wire-after-requires : tie.Need-wire-after-requires Inv-loop μ-loop
-wire-after-requires c κs =
+board-after-requires : tie.Need-board-after-requires Inv-loop μ-loop
+board-after-requires c κs =
     let g = c .before .before in
     let j = g .before .before .before .before .before in
     let h = turn (j .before .before) in
     let done = g .before .before .before .before .if5 .left in
-    goes-wire h (no-row (g .before .before)) (no-desk g) (j .if3 .code) (coded j) done
+    goes-board h (no-row (g .before .before)) (no-desk g) (j .if3 .code) (coded j) done
 
 runs-after-requires : tie.Need-runs-after-requires Inv-loop μ-loop
 runs-after-requires c κs = search needs
@@ -404,11 +404,11 @@ loop-again-7 c =
     let j = g .before .before .before .before .before in
     let h = turn (j .before .before) in
     let done = g .before .before .before .before .if5 .left in
-    let x = c .before .before .before .wire-after in (
+    let x = c .before .before .before .board-after in (
       omega arith,
       omega arith,
       unposted _ _ (h .all)
-          (same-body (ap (λ (y : Bool). withWire y (x .result .streams) (x .result .claims) (bodyIn (table-of (j .before .before)))) (c .runs-after .ensures)) (wire-way h (no-row (g .before .before)) (no-desk g) (j .if3 .code) (coded j) done (x .result) (x .ensures))),
+          (same-body (ap (λ (y : Bool). withBoard y (x .result .streams) (x .result .claims) (bodyIn (table-of (j .before .before)))) (c .runs-after .ensures)) (board-way h (no-row (g .before .before)) (no-desk g) (j .if3 .code) (coded j) done (x .result) (x .ensures))),
     )
 
 same-length : tie.Need-same-length Inv-loop μ-loop
@@ -418,7 +418,7 @@ returns : tie.Need-returns Inv-loop μ-loop
 returns c =
     let l = c .before .before in
     let s = l .before .before .before .before in
-    let all : l .loop .i ≡ s .args .trailer .count = omega arith in
+    let all : l .loop .i ≡ s .args .trailer .records = omega arith in
     ends (s .args .out .now) (s .pre) (rw all at (l .loop .inv .2))
 
 pub run-records-spec : {M : Type 1} → statement M
@@ -430,26 +430,26 @@ run-records-spec =
     fresh-table-requires
     loop-holds
     cast-at
-    mul-node
-    element-copy-out-node
+    mul-controller
+    element-copy-out-controller
     hear-requires
     mul-t40
     element-set-from-table
-    add-told
+    add-reached
     loop-less
     loop-again
     read-record-requires
     at-row-requires
     sub-at
     cast-at-2
-    mul-node-2
-    element-copy-out-node-2
+    mul-controller-2
+    element-copy-out-controller-2
     mul-stream
     element-copy-out-stream
     row-code-requires
     at-desk-requires
     desk-code-requires
-    wire-code-requires
+    board-code-requires
     slice-write-out
     add-i
     loop-less-2
@@ -457,8 +457,8 @@ run-records-spec =
     at-row-requires-2
     sub-at-2
     cast-at-3
-    mul-node-3
-    element-copy-out-node-3
+    mul-controller-3
+    element-copy-out-controller-3
     learn-requires
     mul-t67
     element-set-from-table-2
@@ -481,7 +481,7 @@ run-records-spec =
     loop-again-5
     loop-less-6
     loop-again-6
-    wire-after-requires
+    board-after-requires
     runs-after-requires
     loop-less-7
     loop-again-7

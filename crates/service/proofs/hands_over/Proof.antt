@@ -11,7 +11,7 @@ unfolding handsOver
 returns c =
     let at-if1 = c .before in
     let start = at-if1 .before .before in
-    simp (eq-eqb _ _ (at-if1 .if1 .taken)) (some-taken (start .args .service .count) (start .args .service .backups) (simp length-map at (start .good .0 .1 .1 .1 .1 .0 .1 .0 .1)))
+    simp (eq-eqb _ _ (at-if1 .if1 .taken)) (some-taken (start .args .service .len) (start .args .service .backups) (simp length-map at (start .good .0 .1 .1 .1 .1 .0 .1 .0 .1)))
 
 returns-2 : tie.Need-returns-2
 unfolding handsOver

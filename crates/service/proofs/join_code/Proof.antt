@@ -11,7 +11,7 @@ unfolding holdDesk
 returns c =
     let at-if1 = c .before .before in
     let start = at-if1 .before .before in
-    let a = start .args in join-spent (a .number) (holdDesk (a .count) (a .service) (a .nodes)) (at-if1 .if1 .taken) (c .if2 .taken)
+    let a = start .args in join-spent (a .node) (holdDesk (a .count) (a .service) (a .controllers)) (at-if1 .if1 .taken) (c .if2 .taken)
 
 post-code-requires : tie.Need-post-code-requires
 post-code-requires c κs = search needs
@@ -22,7 +22,7 @@ returns-2 c =
     let at-if2 = c .before in
     let at-if1 = at-if2 .before .before in
     let start = at-if1 .before .before in
-    let a = start .args in c .post-code .ensures ∙ join-vacant (a .number) (holdDesk (a .count) (a .service) (a .nodes)) (at-if1 .if1 .taken) (at-if2 .if2 .left)
+    let a = start .args in c .post-code .ensures ∙ join-vacant (a .node) (holdDesk (a .count) (a .service) (a .controllers)) (at-if1 .if1 .taken) (at-if2 .if2 .left)
 
 names-requires : tie.Need-names-requires
 names-requires c κs = search needs
@@ -33,7 +33,7 @@ returns-3 c =
     let at-names = c .before in
     let at-if1 = at-names .before in
     let start = at-if1 .before .before in
-    let a = start .args in join-named (a .number) (holdDesk (a .count) (a .service) (a .nodes)) (at-if1 .if1 .left) (sym (at-names .names .ensures) ∙ c .if3 .taken)
+    let a = start .args in join-named (a .node) (holdDesk (a .count) (a .service) (a .controllers)) (at-if1 .if1 .left) (sym (at-names .names .ensures) ∙ c .if3 .taken)
 
 post-code-requires-2 : tie.Need-post-code-requires-2
 post-code-requires-2 c κs = search needs
@@ -45,7 +45,7 @@ returns-4 c =
     let at-names = at-if3 .before in
     let at-if1 = at-names .before in
     let start = at-if1 .before .before in
-    let a = start .args in c .post-code2 .ensures ∙ join-backup (a .number) (holdDesk (a .count) (a .service) (a .nodes)) (at-if1 .if1 .left) (sym (at-names .names .ensures) ∙ at-if3 .if3 .left)
+    let a = start .args in c .post-code2 .ensures ∙ join-backup (a .node) (holdDesk (a .count) (a .service) (a .controllers)) (at-if1 .if1 .left) (sym (at-names .names .ensures) ∙ at-if3 .if3 .left)
 
 pub join-code-spec : {M : Type 1} → statement M
 join-code-spec =

@@ -20,7 +20,7 @@ returns c =
     let at-if1 = at-hands-over .before in
     let at-names = at-if1 .before in
     let start = at-names .before in
-    let a = start .args in leave-spent (a .number) (holdDesk (a .count) (a .service) (a .nodes)) (sym (at-names .names .ensures) ∙ at-if1 .if1 .taken) (sym (at-hands-over .hands-over .ensures) ∙ at-if2 .if2 .taken) (c .if3 .taken)
+    let a = start .args in leave-spent (a .node) (holdDesk (a .count) (a .service) (a .controllers)) (sym (at-names .names .ensures) ∙ at-if1 .if1 .taken) (sym (at-hands-over .hands-over .ensures) ∙ at-if2 .if2 .taken) (c .if3 .taken)
 
 post-code-requires : tie.Need-post-code-requires
 post-code-requires c κs = search needs
@@ -34,7 +34,7 @@ returns-2 c =
     let at-if1 = at-hands-over .before in
     let at-names = at-if1 .before in
     let start = at-names .before in
-    let a = start .args in c .post-code .ensures ∙ leave-posts (a .number) (holdDesk (a .count) (a .service) (a .nodes)) (sym (at-names .names .ensures) ∙ at-if1 .if1 .taken) (sym (at-hands-over .hands-over .ensures) ∙ at-if2 .if2 .taken) (at-if3 .if3 .left)
+    let a = start .args in c .post-code .ensures ∙ leave-posts (a .node) (holdDesk (a .count) (a .service) (a .controllers)) (sym (at-names .names .ensures) ∙ at-if1 .if1 .taken) (sym (at-hands-over .hands-over .ensures) ∙ at-if2 .if2 .taken) (at-if3 .if3 .left)
 
 returns-3 : tie.Need-returns-3
 unfolding holdDesk
@@ -43,11 +43,11 @@ returns-3 c =
     let at-if1 = at-hands-over .before in
     let at-names = at-if1 .before in
     let start = at-names .before in
-    let a = start .args in leave-quiet (a .number) (holdDesk (a .count) (a .service) (a .nodes)) (sym (at-names .names .ensures) ∙ at-if1 .if1 .taken) (sym (at-hands-over .hands-over .ensures) ∙ c .if2 .left)
+    let a = start .args in leave-quiet (a .node) (holdDesk (a .count) (a .service) (a .controllers)) (sym (at-names .names .ensures) ∙ at-if1 .if1 .taken) (sym (at-hands-over .hands-over .ensures) ∙ c .if2 .left)
 
 returns-4 : tie.Need-returns-4
 unfolding holdDesk
-returns-4 c = let a = c .before .before .args in leave-unnamed (a .number) (holdDesk (a .count) (a .service) (a .nodes)) (sym (c .before .names .ensures) ∙ c .if1 .left)
+returns-4 c = let a = c .before .before .args in leave-unnamed (a .node) (holdDesk (a .count) (a .service) (a .controllers)) (sym (c .before .names .ensures) ∙ c .if1 .left)
 
 pub leave-code-spec : {M : Type 1} → statement M
 leave-code-spec =

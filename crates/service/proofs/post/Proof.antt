@@ -2,9 +2,9 @@
 use mathlib.Core.Path.{_≡_, refl, ap, _∙_}
 use Prim.Native.Nat.{ℕ, _≤_, _-_}
 use Rattle.seqs.specs.Rows.{mapFirst, mapFirst-step}
-use Rattle.state.specs.Order.{pastNode}
+use Rattle.state.specs.Order.{pastController}
 use Rattle.service.specs.Asks.{hears}
-use Rattle.service.specs.Posting.{node-rows, all-heard}
+use Rattle.service.specs.Posting.{controller-rows, all-heard}
 use native.Mathlib.Omega.{arith}
 use borrow.Author.Needs.{needs}
 use Rattle.service.proofs.post.Statement.{statement}
@@ -19,11 +19,11 @@ abbrev μ-loop : tie.MeasureT-loop
 loop-holds : tie.Need-loop-holds Inv-loop μ-loop
 loop-holds c = (omega arith, refl)
 
-mul-node : tie.Need-mul-node Inv-loop μ-loop
-mul-node c = search needs
+mul-controller : tie.Need-mul-controller Inv-loop μ-loop
+mul-controller c = search needs
 
-array-copy-out-node : tie.Need-array-copy-out-node Inv-loop μ-loop
-array-copy-out-node c = search needs
+array-copy-out-controller : tie.Need-array-copy-out-controller Inv-loop μ-loop
+array-copy-out-controller c = search needs
 
 hear-requires : tie.Need-hear-requires Inv-loop μ-loop
 hear-requires c κs = search needs
@@ -44,17 +44,17 @@ loop-again : tie.Need-loop-again Inv-loop μ-loop
 loop-again c =
     let turn = c .before .before .before in
     let start = turn .before in
-    let n = node-rows (start .args .count) (start .args .nodes) (start .pre .0) in
+    let n = controller-rows (start .args .count) (start .args .controllers) (start .pre .0) in
     let f = start .pre .0 .few in
-    (omega arith, mapFirst-step (hears (start .args .m)) (turn .loop .i) (start .args .nodes) (turn .loop .next) pastNode (c .hear .result) (turn .loop .inv .1) (c .hear .ensures) (omega arith))
+    (omega arith, mapFirst-step (hears (start .args .m)) (turn .loop .i) (start .args .controllers) (turn .loop .next) pastController (c .hear .result) (turn .loop .inv .1) (c .hear .ensures) (omega arith))
 
 returns : tie.Need-returns Inv-loop μ-loop
 returns c =
     let turn = c .before in
     let start = turn .before in
     let n : turn .loop .i ≡ start .args .count = omega arith in
-    turn .loop .inv .1 ∙ ap (λ (k : ℕ). mapFirst (hears (start .args .m)) k (start .args .nodes)) n
-    ∙ all-heard (start .args .count) (start .args .nodes) (start .pre .0) (start .args .m) (start .pre .1) (start .pre .2)
+    turn .loop .inv .1 ∙ ap (λ (k : ℕ). mapFirst (hears (start .args .m)) k (start .args .controllers)) n
+    ∙ all-heard (start .args .count) (start .args .controllers) (start .pre .0) (start .args .m) (start .pre .1) (start .pre .2)
 
 pub post-spec : {M : Type 1} → statement M
 post-spec =
@@ -63,8 +63,8 @@ post-spec =
     Inv-loop
     μ-loop
     loop-holds
-    mul-node
-    array-copy-out-node
+    mul-controller
+    array-copy-out-controller
     hear-requires
     mul-next
     array-set-from-next

@@ -8,28 +8,28 @@ use Rattle.seqs.specs.Arrays.{column}
 use Rattle.seqs.specs.Columns.{column-more, column-at}
 use Rattle.parts.specs.Hold.{holdEvents}
 use Rattle.state.specs.Hold.{eventsAt}
-use Rattle.state.specs.Order.{pastNode}
-use Rattle.service.specs.Posting.{node-rows, events-length, room-of, rooms-more, rooms-not}
+use Rattle.state.specs.Order.{pastController}
+use Rattle.service.specs.Posting.{controller-rows, events-length, room-of, rooms-more, rooms-not}
 use native.Mathlib.Omega.{arith}
 use borrow.Author.Needs.{needs}
 use Rattle.service.proofs.post_room.Statement.{statement}
 use Rattle.service.proofs.post_room.Tie as tie
 
 abbrev Inv-loop : tie.InvT-loop
-Inv-loop count nodes n i₀ i = (i ≤ n) × (roomAll (column eventsAt i nodes) ≡ true)
+Inv-loop count controllers n i₀ i = (i ≤ n) × (roomAll (column eventsAt i controllers) ≡ true)
 
 abbrev μ-loop : tie.MeasureT-loop
-μ-loop count nodes n i₀ i = n - i
+μ-loop count controllers n i₀ i = n - i
 
 loop-holds : tie.Need-loop-holds Inv-loop μ-loop
 unfolding roomAll
 loop-holds c = (omega arith, refl)
 
-mul-node : tie.Need-mul-node Inv-loop μ-loop
-mul-node c = search needs
+mul-controller : tie.Need-mul-controller Inv-loop μ-loop
+mul-controller c = search needs
 
-array-copy-out-node : tie.Need-array-copy-out-node Inv-loop μ-loop
-array-copy-out-node c = search needs
+array-copy-out-controller : tie.Need-array-copy-out-controller Inv-loop μ-loop
+array-copy-out-controller c = search needs
 
 full-requires : tie.Need-full-requires Inv-loop μ-loop
 full-requires c κs = search needs
@@ -38,11 +38,11 @@ returns : tie.Need-returns Inv-loop μ-loop
 returns c =
     let turn = c .before .before .before .before .before in
     let start = turn .before in
-    let nodes = start .args .t2 in
+    let controllers = start .args .t2 in
     let i = turn .loop .i in
-    let n = events-length (start .args .count) nodes (start .pre) in
-    let e = room-of (getD nodes i pastNode .events) (start .pre .rows i (omega arith) .events) ∙ ap not (sym (c .before .full .ensures) ∙ c .if1 .taken) in
-    sym (rooms-not (column eventsAt (start .args .count) nodes) i (omega arith) (ap room (column-at eventsAt (start .args .count) i nodes pastNode (omega arith)) ∙ e))
+    let n = events-length (start .args .count) controllers (start .pre) in
+    let e = room-of (getD controllers i pastController .events) (start .pre .rows i (omega arith) .events) ∙ ap not (sym (c .before .full .ensures) ∙ c .if1 .taken) in
+    sym (rooms-not (column eventsAt (start .args .count) controllers) i (omega arith) (ap room (column-at eventsAt (start .args .count) i controllers pastController (omega arith)) ∙ e))
 
 add-i : tie.Need-add-i Inv-loop μ-loop
 add-i c = search needs
@@ -54,12 +54,12 @@ loop-again : tie.Need-loop-again Inv-loop μ-loop
 loop-again c =
     let turn = c .before .before .before .before .before in
     let start = turn .before in
-    let nodes = start .args .t2 in
+    let controllers = start .args .t2 in
     let i = turn .loop .i in
-    let n = node-rows (start .args .count) nodes (start .pre) in
+    let n = controller-rows (start .args .count) controllers (start .pre) in
     let f = start .pre .few in
-    let e = room-of (getD nodes i pastNode .events) (start .pre .rows i (omega arith) .events) ∙ ap not (sym (c .before .full .ensures) ∙ c .if1 .left) in
-    (omega arith, ap roomAll (column-more eventsAt i nodes pastNode (omega arith)) ∙ rooms-more (holdEvents (getD nodes i pastNode .events)) (column eventsAt i nodes) (turn .loop .inv .1) e)
+    let e = room-of (getD controllers i pastController .events) (start .pre .rows i (omega arith) .events) ∙ ap not (sym (c .before .full .ensures) ∙ c .if1 .left) in
+    (omega arith, ap roomAll (column-more eventsAt i controllers pastController (omega arith)) ∙ rooms-more (holdEvents (getD controllers i pastController .events)) (column eventsAt i controllers) (turn .loop .inv .1) e)
 
 returns-2 : tie.Need-returns-2 Inv-loop μ-loop
 returns-2 c =
@@ -74,8 +74,8 @@ post-room-spec =
     Inv-loop
     μ-loop
     loop-holds
-    mul-node
-    array-copy-out-node
+    mul-controller
+    array-copy-out-controller
     full-requires
     returns
     add-i

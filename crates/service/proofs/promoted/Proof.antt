@@ -42,7 +42,7 @@ returns c =
     let start = c .before .before .before in
     let m = start .args .m in
     let n : length (m .backups) ≡ 7 = simp length-map at (start .good .0 .1 .1 .1 .1 .0 .1 .0 .1) in
-    ap {B = Mastership} (λ (l : List ℕ). record { term = record { 0 = m .term .0 + 1 }; master = getD (m .backups) 0 0; backups = l; count = m .count - 1 }) (moved-up 6 (m .backups) 0 0 n)
+    ap {B = Mastership} (λ (l : List ℕ). record { term = record { 0 = m .term .0 + 1 }; master = getD (m .backups) 0 0; backups = l; len = m .len - 1 }) (moved-up 6 (m .backups) 0 0 n)
     ∙ handed-over m (start .pre .ordered) (start .pre .some)
 
 pub promoted-spec : {M : Type 1} → statement M

@@ -10,27 +10,27 @@ use Rattle.seqs.specs.Arrays.{padded}
 use Rattle.parts.specs.Hold.{asIs, holdMastership}
 use Rattle.service.specs.Asks.{skipping}
 use Rattle.service.specs.Removal.{removed-length, removed-at, skip-below, padded-more}
-use Rattle.service.specs.Masterships.{backups-count}
+use Rattle.service.specs.Masterships.{backups-len}
 use native.Mathlib.Omega.{arith}
 use borrow.Author.Needs.{needs}
 use Rattle.service.proofs.without.Statement.{statement}
 use Rattle.service.proofs.without.Tie as tie
 
 abbrev Inv-loop : tie.InvT-loop
-Inv-loop number m place gone kept backups₀ i₀ backups i = (i ≤ kept) × (backups ≡ padded 0 asIs 7 (take i (remove number (take (m .count) (m .backups)))))
+Inv-loop node m place gone kept backups₀ i₀ backups i = (i ≤ kept) × (backups ≡ padded 0 asIs 7 (take i (remove node (take (m .len) (m .backups)))))
 
 abbrev μ-loop : tie.MeasureT-loop
-μ-loop number m place gone kept backups₀ i₀ backups i = kept - i
+μ-loop node m place gone kept backups₀ i₀ backups i = kept - i
 
 -- one backup goes, and as many are kept as there are others
-sizes : (c : tie.Start Inv-loop μ-loop) → suc (length (remove (c .args .number) (holdMastership (c .args .t1) .backups))) ≡ c .args .t1 .count
-sizes c = removed-length (c .args .number) (holdMastership (c .args .t1) .backups) (c .pre .among) ∙ sym (backups-count (c .args .t1) (c .pre .ordered))
+sizes : (c : tie.Start Inv-loop μ-loop) → suc (length (remove (c .args .node) (holdMastership (c .args .t1) .backups))) ≡ c .args .t1 .len
+sizes c = removed-length (c .args .node) (holdMastership (c .args .t1) .backups) (c .pre .among) ∙ sym (backups-len (c .args .t1) (c .pre .ordered))
 
-few : (c : tie.Start Inv-loop μ-loop) → c .args .t1 .count ≤ 7
-few c = let n = backups-count (c .args .t1) (c .pre .ordered) in let s = c .pre .ordered .short in omega arith
+few : (c : tie.Start Inv-loop μ-loop) → c .args .t1 .len ≤ 7
+few c = let n = backups-len (c .args .t1) (c .pre .ordered) in let s = c .pre .ordered .short in omega arith
 
 -- its place is that of the node among the backups
-gone : (c : tie.After-place-of Inv-loop μ-loop) → c .place-of .result ≡ before (c .before .args .number) (holdMastership (c .before .args .t1) .backups) + 1
+gone : (c : tie.After-place-of Inv-loop μ-loop) → c .place-of .result ≡ before (c .before .args .node) (holdMastership (c .before .args .t1) .backups) + 1
 unfolding placeOf
 gone c = c .place-of .ensures ∙ simp (ne-eqb _ _ (c .before .pre .other))
 
@@ -75,7 +75,7 @@ loop-again c =
     let turn = c .before .before .before in
     let start = turn .before .before in
     let m = start .args .t1 in
-    let n = start .args .number in
+    let n = start .args .node in
     let l = holdMastership m .backups in
     let i = turn .loop .i in
     let from = c .before .skip .result in
@@ -85,7 +85,7 @@ loop-again c =
     let f : from ≡ skipping i (before n l) = c .before .skip .ensures ∙ ap (skipping i) g in
     let b = skip-below i (before n l) in
     let x : getD (m .backups) from 0 ≡ getD (remove n l) i 0 =
-    sym (getD-take (m .count) (m .backups) from 0 (omega arith)) ∙ ap (λ (j : ℕ). getD l j 0) f ∙ sym (removed-at n l i) in
+    sym (getD-take (m .len) (m .backups) from 0 (omega arith)) ∙ ap (λ (j : ℕ). getD l j 0) f ∙ sym (removed-at n l i) in
     (omega arith, padded-more (remove n l) i (turn .loop .backups) (getD (m .backups) from 0) (turn .loop .inv .1) (omega arith) (omega arith) x)
 
 sub-t22 : tie.Need-sub-t22 Inv-loop μ-loop
@@ -96,14 +96,14 @@ returns c =
     let turn = c .before .before in
     let start = turn .before .before in
     let m = start .args .t1 in
-    let kept = remove (start .args .number) (holdMastership m .backups) in
+    let kept = remove (start .args .node) (holdMastership m .backups) in
     let k = sizes start in
     let n : turn .loop .i ≡ length kept = omega arith in
     λ i. record {
       term = m .term;
       master = m .master;
       backups = (turn .loop .inv .1 ∙ ap (padded 0 asIs 7) (take-all (turn .loop .i) kept (omega arith))) i;
-      count = (let e : m .count - 1 ≡ length kept = omega arith in e) i;
+      len = (let e : m .len - 1 ≡ length kept = omega arith in e) i;
     }
 
 pub without-spec : {M : Type 1} → statement M

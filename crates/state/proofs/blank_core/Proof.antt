@@ -1,6 +1,6 @@
 -- `blank_core` meets its contract. Assumes nothing.
 use Rattle.rules.specs.Step.{fresh}
-use Rattle.state.specs.Hold.{packCore, packNodes, packStreams, packClaims}
+use Rattle.state.specs.Hold.{packCore, packControllers, packStreams, packClaims}
 use Rattle.state.specs.Blank.{blank-core}
 use borrow.Author.Needs.{needs}
 use Rattle.state.proofs.blank_core.Statement.{statement}
@@ -19,7 +19,7 @@ empty-requires-3 : tie.Need-empty-requires-3
 empty-requires-3 c κs = search needs
 
 returns : tie.Need-returns
-unfolding packCore fresh packNodes packStreams packClaims
+unfolding packCore fresh packControllers packStreams packClaims
 returns c =
     let at-empty2 = c .before in
     let at-empty = at-empty2 .before in

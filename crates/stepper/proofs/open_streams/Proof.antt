@@ -18,15 +18,15 @@ in-range-requires c κs = search needs
 open-word-requires : tie.Need-open-word-requires
 open-word-requires c κs = few-nodes (c .before .before .before .before .args .state) (fits (c .before .before))
 
-open-count-requires : tie.Need-open-count-requires
-open-count-requires c κs = few-nodes (c .before .before .before .before .before .args .state) (fits (c .before .before .before))
+open-number-requires : tie.Need-open-number-requires
+open-number-requires c κs = few-nodes (c .before .before .before .before .before .args .state) (fits (c .before .before .before))
 
 returns : tie.Need-returns
 returns c =
     let at-open-word = c .before in
     let at-before = at-open-word .before .before in
     let start = at-before .before .before .before in
-    reports (start .args .state) (fits (at-before .before)) _ (λ i. record { code = 0; word = at-open-word .open-word .ensures i; count = c .open-count .ensures i })
+    reports (start .args .state) (fits (at-before .before)) _ (λ i. record { code = 0; word = at-open-word .open-word .ensures i; number = c .open-number .ensures i })
 
 returns-2 : tie.Need-returns-2
 unfolding reported
@@ -34,4 +34,4 @@ returns-2 c = simp (sym (c .before .in-range .ensures) ∙ c .if1 .left)
 
 pub open-streams-spec : {M : Type 1} → statement M
 open-streams-spec =
-    tie.close (tie.spec in-range-requires open-word-requires open-count-requires returns returns-2)
+    tie.close (tie.spec in-range-requires open-word-requires open-number-requires returns returns-2)

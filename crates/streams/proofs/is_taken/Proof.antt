@@ -26,8 +26,8 @@ mul-others c = search needs
 array-set-from-others : tie.Need-array-set-from-others
 array-set-from-others c = search needs
 
-before-id-requires : tie.Need-before-id-requires
-before-id-requires c κs = search needs
+id-place-requires : tie.Need-id-place-requires
+id-place-requires c κs = search needs
 
 returns : tie.Need-returns
 unfolding taken
@@ -38,8 +38,8 @@ returns c =
     let ids = column idAt (start .args .count) (start .args .ids) in
     let n : length (set ids (start .args .node - 1) 0) ≡ start .args .count = length-set ids _ _ ∙ length-column idAt (start .args .count) (start .args .ids) (omega arith) in
     let e = column-set idAt (start .args .count) (start .args .node - 1) (start .args .ids) (record { 0 = 0 }) in
-    ap₂ ltb (c .before-id .ensures ∙ ap (before (start .args .id .0)) e) (sym n) ∙ sym (has-before (start .args .id .0) (set ids (start .args .node - 1) 0))
+    ap₂ ltb (c .id-place .ensures ∙ ap (before (start .args .id .0)) e) (sym n) ∙ sym (has-before (start .args .id .0) (set ids (start .args .node - 1) 0))
 
 pub is-taken-spec : {M : Type 1} → statement M
 is-taken-spec =
-    tie.close (tie.spec sub-at cast-at mul-others array-set-from-others before-id-requires returns)
+    tie.close (tie.spec sub-at cast-at mul-others array-set-from-others id-place-requires returns)

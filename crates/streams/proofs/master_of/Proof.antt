@@ -21,22 +21,22 @@ returns : tie.Need-returns
 unfolding masterOf
 returns c = simp (eq-eqb _ _ (sym (c .before .before .largest-id .ensures) ∙ c .if1 .taken))
 
-before-id-requires : tie.Need-before-id-requires
-before-id-requires c κs = search needs
+id-place-requires : tie.Need-id-place-requires
+id-place-requires c κs = search needs
 
 add-result : tie.Need-add-result
 add-result c =
     let start = c .before .before .before .before in
     let k : length (start .args .ids) ≡ 8 = start .good .1 .0 .1 .0 .1 in
     let n = length-column idAt (start .args .count) (start .args .ids) (omega arith) in
-    omega (arith, before-le (c .before .before .before .largest-id .result .0) (column idAt (start .args .count) (start .args .ids)), c .before-id .ensures)
+    omega (arith, before-le (c .before .before .before .largest-id .result .0) (column idAt (start .args .count) (start .args .ids)), c .id-place .ensures)
 
 returns-2 : tie.Need-returns-2
 unfolding masterOf
 returns-2 c =
     let e = c .before .before .before .largest-id .ensures in
-    simp (← e, ne-eqb _ _ (c .before .if1 .left)) (ap (λ (k : ℕ). k + 1) (c .before-id .ensures))
+    simp (← e, ne-eqb _ _ (c .before .if1 .left)) (ap (λ (k : ℕ). k + 1) (c .id-place .ensures))
 
 pub master-of-spec : {M : Type 1} → statement M
 master-of-spec =
-    tie.close (tie.spec largest-id-requires returns before-id-requires add-result returns-2)
+    tie.close (tie.spec largest-id-requires returns id-place-requires add-result returns-2)

@@ -19,7 +19,7 @@ use Rattle.parts.specs.Hold.{packResponse}
 use Rattle.state.specs.Hold.{idAt, openAt}
 use Rattle.state.specs.Order.{pastStream}
 use Rattle.state.specs.declared.Stream.{Stream}
-use Rattle.streams.specs.Does.{told, tellRow}
+use Rattle.streams.specs.Does.{responded, tellRow}
 use Rattle.streams.proofs.tell_all.Statement.{statement}
 use Rattle.streams.proofs.tell_all.Tie as tie
 
@@ -107,8 +107,8 @@ cast-news-for c = omega (arith, place (c .before))
 news-for-requires : tie.Need-news-for-requires Inv-loop μ-loop
 news-for-requires c κs = search needs
 
-tell-requires : tie.Need-tell-requires Inv-loop μ-loop
-tell-requires c κs = search needs
+respond-requires : tie.Need-respond-requires Inv-loop μ-loop
+respond-requires c κs = search needs
 
 mul-next : tie.Need-mul-next Inv-loop μ-loop
 mul-next c = omega (arith, place (c .before .before .before))
@@ -138,13 +138,13 @@ loop-again c =
     let few : start .args .count ≤ 8 = start .pre in
     let lt : i < mostNodes = omega (arith, place turn) in
     let was = walk-at mostNodes old new pastStream flags (so-far .flags) (turn .before .loop .next) i (so-far .walk) lt (l .isSet) in
-    let is : c .tell .result ≡ new i =
-    c .tell .ensures ∙ ap₂ told (c .before .news-for .ensures ids m t) was
-    ∙ sym (ap (λ (b : Bool). cond b (told (packResponse (news ids (i + 1))) (old i)) (old i)) (so-far .walk .sub i (l .isSet))) in
+    let is : c .respond .result ≡ new i =
+    c .respond .ensures ∙ ap₂ responded (c .before .news-for .ensures ids m t) was
+    ∙ sym (ap (λ (b : Bool). cond b (responded (packResponse (news ids (i + 1))) (old i)) (old i)) (so-far .walk .sub i (l .isSet))) in
     record {
       flags = set (so-far .flags) i false;
       word = l .cleared;
-      walk = walk-step mostNodes old new pastStream flags (so-far .flags) (turn .before .loop .next) i (c .tell .result) (so-far .walk) (l .inside) lt is;
+      walk = walk-step mostNodes old new pastStream flags (so-far .flags) (turn .before .loop .next) i (c .respond .result) (so-far .walk) (l .inside) lt is;
     }
 
 returns : tie.Need-returns Inv-loop μ-loop
@@ -172,7 +172,7 @@ tell-all-spec =
     add-news-for
     cast-news-for
     news-for-requires
-    tell-requires
+    respond-requires
     mul-next
     array-set-from-next
     sub-left

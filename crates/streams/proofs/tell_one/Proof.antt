@@ -4,7 +4,7 @@ use borrow.Author.Needs.{needs}
 use Rattle.seqs.specs.Arrays.{column}
 use Rattle.parts.specs.declared.Response.{Response}
 use Rattle.state.specs.Hold.{idAt}
-use Rattle.streams.specs.Does.{told}
+use Rattle.streams.specs.Does.{responded}
 use Rattle.streams.proofs.tell_one.Statement.{statement}
 use Rattle.streams.proofs.tell_one.Tie as tie
 
@@ -17,17 +17,17 @@ largest-id-requires c κs = search needs
 news-for-requires : tie.Need-news-for-requires
 news-for-requires c κs = search needs
 
-tell-requires : tie.Need-tell-requires
-tell-requires c κs = search needs
+respond-requires : tie.Need-respond-requires
+respond-requires c κs = search needs
 
 returns : tie.Need-returns
 returns c =
     let start = c .before .before .before .before in
     let ids = column idAt (start .args .count) (start .args .ids) in
-    c .tell .ensures
-    ∙ ap (λ (r : Response). told r (start .args .stream)) (c .before .news-for .ensures ids (sym (c .before .before .before .master-of .ensures)) (sym (c .before .before .largest-id .ensures)))
+    c .respond .ensures
+    ∙ ap (λ (r : Response). responded r (start .args .stream)) (c .before .news-for .ensures ids (sym (c .before .before .before .master-of .ensures)) (sym (c .before .before .largest-id .ensures)))
 
 pub tell-one-spec : {M : Type 1} → statement M
 tell-one-spec =
     tie.close
-    (tie.spec master-of-requires largest-id-requires news-for-requires tell-requires returns)
+    (tie.spec master-of-requires largest-id-requires news-for-requires respond-requires returns)

@@ -6,7 +6,7 @@ use Rattle.rules.specs.Limits.{mostNodes}
 use Rattle.rules.specs.Rules.{changes, closeRule}
 use Rattle.seqs.specs.Arrays.{column, table}
 use Rattle.state.specs.Hold.{idAt, openAt}
-use Rattle.state.specs.declared.Wire.{Wire}
+use Rattle.state.specs.declared.Board.{Board}
 use Rattle.streams.specs.Does.{tellRow}
 use Rattle.switch.proofs.Closing.{shifts, closed-quiet, closed-told, close-roomy}
 use Rattle.switch.proofs.close.Statement.{statement}
@@ -16,7 +16,7 @@ use Rattle.switch.proofs.close.Tie as tie
 shifts-so : (c : tie.After-master-changes) (b : Bool) → c .master-changes .result ≡ b → shifts (c .before .before .before .before .before .pre .at) ≡ b
 shifts-so c b e =
     let start = c .before .before .before .before .before in
-    ap (λ (x : Wire). changes (column idAt (start .args .count) (start .args .claims .ids)) (column idAt (start .args .count) (x .claims .ids))) (sym (c .before .before .before .before .cleared-at .ensures))
+    ap (λ (x : Board). changes (column idAt (start .args .count) (start .args .claims .ids)) (column idAt (start .args .count) (x .claims .ids))) (sym (c .before .before .before .before .cleared-at .ensures))
     ∙ sym (c .master-changes .ensures) ∙ e
 
 cleared-at-requires : tie.Need-cleared-at-requires
@@ -34,8 +34,8 @@ returns c =
     let start = c .before .before .before .before .before .before .before .before in
     let count = start .args .count in
     let left = c .before .before .before .before .before .before .before .cleared-at in
-    ap {B = Wire} (λ r. record { streams = r; claims = left .result .claims }) (c .tell-all .ensures)
-    ∙ ap {B = Wire} (λ (x : Wire). record { streams = table mostNodes (tellRow (column openAt count (x .streams)) (column idAt count (x .claims .ids)) (x .streams)); claims = x .claims }) (left .ensures)
+    ap {B = Board} (λ r. record { streams = r; claims = left .result .claims }) (c .tell-all .ensures)
+    ∙ ap {B = Board} (λ (x : Board). record { streams = table mostNodes (tellRow (column openAt count (x .streams)) (column idAt count (x .claims .ids)) (x .streams)); claims = x .claims }) (left .ensures)
     ∙ closed-told (start .pre .at) (shifts-so (c .before .before .before) _ (c .before .before .if1 .taken)) (close-roomy (start .pre .at) (start .pre .goes))
 
 returns-2 : tie.Need-returns-2

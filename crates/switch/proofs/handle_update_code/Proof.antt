@@ -21,7 +21,7 @@ array-copy-out-stream : tie.Need-array-copy-out-stream
 array-copy-out-stream c = search needs
 
 waits-requires : tie.Need-waits-requires
-waits-requires c κs = c .before .pre .wire .rows _ (below (c .before .pre))
+waits-requires c κs = c .before .pre .board .rows _ (below (c .before .pre))
 
 enum-told : tie.Need-enum-told
 enum-told c = search needs

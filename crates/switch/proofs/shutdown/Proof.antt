@@ -4,16 +4,16 @@ use Prim.Native.Nat.{ℕ, _-_, _≤_}
 use native.Mathlib.Omega.{arith}
 use borrow.Author.Needs.{needs}
 use Rattle.rules.specs.State as S
-use Rattle.state.specs.Hold.{holdWire}
-use Rattle.state.specs.Stores.{packWire}
-use Rattle.state.specs.declared.Wire.{Wire}
+use Rattle.state.specs.Hold.{holdBoard}
+use Rattle.state.specs.Stores.{packBoard}
+use Rattle.state.specs.declared.Board.{Board}
 use Rattle.switch.proofs.Storing.{sized}
 use Rattle.switch.proofs.Clearing.{clearedTo, cleared-more, cleared-all}
 use Rattle.switch.proofs.shutdown.Statement.{statement}
 use Rattle.switch.proofs.shutdown.Tie as tie
 
 abbrev Inv-loop : tie.InvT-loop
-Inv-loop count next₀ node₀ next node = (node ≤ count) × ((w : S.Wire) → packWire w ≡ next₀ → next ≡ packWire (clearedTo node w))
+Inv-loop count next₀ node₀ next node = (node ≤ count) × ((w : S.Board) → packBoard w ≡ next₀ → next ≡ packBoard (clearedTo node w))
 
 abbrev μ-loop : tie.MeasureT-loop
 μ-loop count next₀ node₀ next node = count - node
@@ -39,11 +39,11 @@ returns : tie.Need-returns Inv-loop μ-loop
 returns c =
     let turn = c .before in
     let start = turn .before in
-    let w = holdWire (start .args .count) (start .args .streams) (start .args .claims) in
+    let w = holdBoard (start .args .count) (start .args .streams) (start .args .claims) in
     let n : turn .loop .node ≡ start .args .count = omega arith in
     turn .loop .inv .1 w (λ i. record { streams = start .pre .streams-same i; claims = start .pre .claims-same i })
-    ∙ ap (λ (k : ℕ). packWire (clearedTo k w)) n
-    ∙ ap packWire (cleared-all (start .args .count) w (sized (start .args .count) (start .args .streams) (start .args .claims) (start .pre)))
+    ∙ ap (λ (k : ℕ). packBoard (clearedTo k w)) n
+    ∙ ap packBoard (cleared-all (start .args .count) w (sized (start .args .count) (start .args .streams) (start .args .claims) (start .pre)))
 
 pub shutdown-spec : {M : Type 1} → statement M
 shutdown-spec =

@@ -15,8 +15,8 @@ use Rattle.parts.specs.declared.Request.{Request}
 use Rattle.state.specs.Hold.{idAt, openAt}
 use Rattle.state.specs.declared.Claims.{Claims}
 use Rattle.state.specs.declared.Stream.{Stream}
-use Rattle.state.specs.declared.Wire.{Wire}
-use Rattle.streams.specs.Does.{told, tellRow}
+use Rattle.state.specs.declared.Board.{Board}
+use Rattle.streams.specs.Does.{responded, tellRow}
 use Rattle.switch.specs.Does.{withClaim}
 use Rattle.switch.proofs.Updating.{has-head, head-is, shifts, ids-then, claimsThen, updated-all, updated-one}
 use Rattle.switch.proofs.updated.Statement.{statement}
@@ -25,7 +25,7 @@ use Rattle.switch.proofs.updated.Tie as tie
 -- the node's place is one of eight
 place : (c : tie.Start) → c .args .node - 1 < 8
 place c =
-    let few : c .args .count ≤ 8 = c .pre .head .at .wire .few in
+    let few : c .args .count ≤ 8 = c .pre .head .at .board .few in
     let from = c .pre .head .at .from in
     let upto = c .pre .head .at .upto in
     omega arith
@@ -80,8 +80,8 @@ returns : tie.Need-returns
 returns c =
     let start = c .before .before .before .before .before .before .before .before .before .before .before in
     let count = start .args .count in
-    ap {B = Wire} (λ (l : List Stream). record { streams = l; claims = c .before .before .before .before .before .before .with-claim .result }) (c .tell-all .ensures)
-    ∙ ap₂ {C = Wire} (λ (k : Claims) (r : Stream). let next = set (start .args .t3) (start .args .node - 1) r in record { streams = table mostNodes (tellRow (column openAt count next) (column idAt count (k .ids)) next); claims = k }) (claimed (c .before .before .before .before .before .before)) (c .before .before .before .without-head .ensures)
+    ap {B = Board} (λ (l : List Stream). record { streams = l; claims = c .before .before .before .before .before .before .with-claim .result }) (c .tell-all .ensures)
+    ∙ ap₂ {C = Board} (λ (k : Claims) (r : Stream). let next = set (start .args .t3) (start .args .node - 1) r in record { streams = table mostNodes (tellRow (column openAt count next) (column idAt count (k .ids)) next); claims = k }) (claimed (c .before .before .before .before .before .before)) (c .before .before .before .without-head .ensures)
     ∙ updated-all (start .pre .head) (shifts-so (c .before .before) _ (c .before .if1 .taken)) (start .pre .roomy)
 
 tell-one-requires : tie.Need-tell-one-requires
@@ -96,8 +96,8 @@ array-set-from-next-2 c = omega (arith, place (c .before .before .before .before
 returns-2 : tie.Need-returns-2
 returns-2 c =
     let start = c .before .before .before .before .before .before .before .before .before .before .before in
-    ap₂ {C = Wire} (λ (r : Stream) (k : Claims). record { streams = set (start .args .t3) (start .args .node - 1) r; claims = k })
-    (c .tell-one .ensures ∙ ap₂ (λ (l : List ℕ) (r : Stream). told (packResponse (news l (start .args .node))) r) (ap (λ (k : Claims). column idAt (start .args .count) (k .ids)) (claimed (c .before .before .before .before .before .before)) ∙ ids-then (start .pre .head)) (c .before .before .before .without-head .ensures))
+    ap₂ {C = Board} (λ (r : Stream) (k : Claims). record { streams = set (start .args .t3) (start .args .node - 1) r; claims = k })
+    (c .tell-one .ensures ∙ ap₂ (λ (l : List ℕ) (r : Stream). responded (packResponse (news l (start .args .node))) r) (ap (λ (k : Claims). column idAt (start .args .count) (k .ids)) (claimed (c .before .before .before .before .before .before)) ∙ ids-then (start .pre .head)) (c .before .before .before .without-head .ensures))
     (claimed (c .before .before .before .before .before .before))
     ∙ updated-one (start .pre .head) (shifts-so (c .before .before) _ (c .before .if1 .left)) (start .pre .roomy)
 

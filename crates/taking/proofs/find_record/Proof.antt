@@ -12,10 +12,10 @@ use Rattle.taking.proofs.find_record.Statement.{statement}
 use Rattle.taking.proofs.find_record.Tie as tie
 
 abbrev Inv-loop : tie.InvT-loop
-Inv-loop first trailer start event i₀ i = Seeking (λ a. sameEvent (recordAt first a) (eventOf event)) start (trailer .count) i
+Inv-loop first trailer start event i₀ i = Seeking (λ a. sameEvent (recordAt first a) (eventOf event)) start (trailer .records) i
 
 abbrev μ-loop : tie.MeasureT-loop
-μ-loop first trailer start event i₀ i = trailer .count - i
+μ-loop first trailer start event i₀ i = trailer .records - i
 
 loop-holds : tie.Need-loop-holds Inv-loop μ-loop
 loop-holds c = seek-starts (omega arith)

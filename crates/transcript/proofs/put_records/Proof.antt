@@ -14,10 +14,10 @@ use Rattle.transcript.proofs.put_records.Statement.{statement}
 use Rattle.transcript.proofs.put_records.Tie as tie
 
 abbrev Inv-loop : tie.InvT-loop
-Inv-loop buf₀ list trailer answers at₀ i₀ buf at i = (i ≤ trailer .count) × Lined (recordLineAt list answers) 18 buf₀ 0 i buf at
+Inv-loop buf₀ list trailer answers at₀ i₀ buf at i = (i ≤ trailer .records) × Lined (recordLineAt list answers) 18 buf₀ 0 i buf at
 
 abbrev μ-loop : tie.MeasureT-loop
-μ-loop buf₀ list trailer answers at₀ i₀ buf at i = trailer .count - i
+μ-loop buf₀ list trailer answers at₀ i₀ buf at i = trailer .records - i
 
 loop-holds : tie.Need-loop-holds Inv-loop μ-loop
 loop-holds c = (omega arith, lined-none _ _ _ _)
@@ -45,7 +45,7 @@ put-record-line-requires : tie.Need-put-record-line-requires Inv-loop μ-loop
 put-record-line-requires c κs =
     let at-loop = c .before .before .before .before .before in
     let start = at-loop .before .before .before .before in
-    lined-room (at-loop .loop .inv .1) (short c) (start .args .trailer .count) (omega arith) (omega arith)
+    lined-room (at-loop .loop .inv .1) (short c) (start .args .trailer .records) (omega arith) (omega arith)
 
 add-i : tie.Need-add-i Inv-loop μ-loop
 add-i c = search needs
@@ -67,7 +67,7 @@ same-length c = put-length (c .before .before .loop .inv .1 .put)
 returns : tie.Need-returns Inv-loop μ-loop
 returns c =
     let at-loop = c .before .before in
-    let all : at-loop .loop .i ≡ at-loop .before .before .before .before .args .trailer .count = omega arith in
+    let all : at-loop .loop .i ≡ at-loop .before .before .before .before .args .trailer .records = omega arith in
     rw all at (at-loop .loop .inv .1)
 
 pub put-records-spec : {M : Type 1} → statement M

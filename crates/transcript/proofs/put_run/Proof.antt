@@ -19,8 +19,8 @@ use Rattle.transcript.proofs.put_run.Statement.{statement}
 use Rattle.transcript.proofs.put_run.Tie as tie
 
 -- the three parts, one behind the other
-whole : (list out : List ℕ) (writes : ℕ) {part l m k j : List ℕ} {count a b r : ℕ} → count ≡ recordCount list → part ≡ drop count out → count ≤ 32762 → writes ≤ historyLength
-    → Lined (recordLineAt list out) 18 l 0 count m a → Put m a (writesLine writes) k b → Lined (entryLineAt part) 10 k b writes j r
+whole : (list out : List ℕ) (writes : ℕ) {part l m k j : List ℕ} {total a b r : ℕ} → total ≡ recordCount list → part ≡ drop total out → total ≤ 32762 → writes ≤ historyLength
+    → Lined (recordLineAt list out) 18 l 0 total m a → Put m a (writesLine writes) k b → Lined (entryLineAt part) 10 k b writes j r
     → Put l 0 (bytesText list out writes) j r × (r ≤ longestText)
 unfolding bytesText
 whole list out writes e d c w p q s =
@@ -64,9 +64,9 @@ returns c =
     let line = c .before .before .before .before .before .before .before in
     let records = line .before .before .before .before in
     let start = records .before .before .before .before .before in
-    let count = start .args .trailer .count in
+    let total = start .args .trailer .records in
     let out = start .args .out .now in
-    whole (start .args .list .now) out (start .args .writes) (start .pre .0 .count) (take-all (length out - count) (drop count out) (simp length-drop (omega arith))) (omega arith) (omega arith)
+    whole (start .args .list .now) out (start .args .writes) (start .pre .0 .records) (take-all (length out - total) (drop total out) (simp length-drop (omega arith))) (omega arith) (omega arith)
     (records .put-records .ensures) (line .put-writes-line .ensures) (c .before .before .put-writes .ensures)
 
 pub put-run-spec : {M : Type 1} → statement M

@@ -13,8 +13,8 @@ send-update-requires c κs = let goes = c .before .pre .0 in (goes .asks .ordere
 quiet-requires : tie.Need-quiet-requires
 quiet-requires c κs = search needs
 
-told-requires : tie.Need-told-requires
-told-requires c κs = c .before .pre .0 .waits (c .match .keys2)
+flagged-requires : tie.Need-flagged-requires
+flagged-requires c κs = c .before .pre .0 .waits (c .match .keys2)
 
 send-write-requires : tie.Need-send-write-requires
 send-write-requires c κs = let goes = c .before .pre .0 in (goes .asks .ordered-stream, goes .roomy (inr (c .match .keys3)))
@@ -40,25 +40,25 @@ written-requires c κs = let m = c .match in let start = c .before in start .pre
 returns : tie.Need-returns
 returns c =
     let start = c .before .before .before in
-    rw (c .before .before .match .keys1) (c .quiet .ensures ∙ ap (quiet (start .args .ask) (start .args .node) (start .args .claims)) (c .before .send-update .ensures))
+    rw (c .before .before .match .keys1) (c .quiet .ensures ∙ ap (quiet (start .args .ask) (start .args .controller) (start .args .claims)) (c .before .send-update .ensures))
 
 returns-2 : tie.Need-returns-2
-returns-2 c = rw (c .before .match .keys2) (c .told .ensures)
+returns-2 c = rw (c .before .match .keys2) (c .flagged .ensures)
 
 returns-3 : tie.Need-returns-3
 returns-3 c =
     let start = c .before .before .before in
-    rw (c .before .before .match .keys3) (c .quiet2 .ensures ∙ ap (quiet (start .args .ask) (start .args .node) (start .args .claims)) (c .before .send-write .ensures))
+    rw (c .before .before .match .keys3) (c .quiet2 .ensures ∙ ap (quiet (start .args .ask) (start .args .controller) (start .args .claims)) (c .before .send-write .ensures))
 
 returns-4 : tie.Need-returns-4
 returns-4 c =
     let start = c .before .before .before in
-    rw (c .before .before .match .keys4) (c .quiet3 .ensures ∙ ap (quiet (start .args .ask) (start .args .node) (start .args .claims)) (c .before .receive .ensures))
+    rw (c .before .before .match .keys4) (c .quiet3 .ensures ∙ ap (quiet (start .args .ask) (start .args .controller) (start .args .claims)) (c .before .receive .ensures))
 
 returns-5 : tie.Need-returns-5
 returns-5 c =
     let start = c .before .before .before in
-    rw (c .before .before .match .keys5) (c .quiet4 .ensures ∙ ap (quiet (start .args .ask) (start .args .node) (start .args .claims)) (c .before .connect .ensures))
+    rw (c .before .before .match .keys5) (c .quiet4 .ensures ∙ ap (quiet (start .args .ask) (start .args .controller) (start .args .claims)) (c .before .connect .ensures))
 
 returns-6 : tie.Need-returns-6
 returns-6 c =
@@ -67,4 +67,4 @@ returns-6 c =
     rw (last-row _ (start .pre .0 .asks .kind) (start .pre .1) (m .rest .0 .0 .0 .0 .1) (m .rest .0 .0 .0 .1) (m .rest .0 .0 .1) (m .rest .0 .1) (m .rest .1)) (c .written .ensures)
 
 pub row-after-spec : {M : Type 1} → statement M
-row-after-spec = tie.close (tie.spec send-update-requires quiet-requires told-requires send-write-requires quiet-requires-2 receive-requires quiet-requires-3 connect-requires quiet-requires-4 written-requires returns returns-2 returns-3 returns-4 returns-5 returns-6)
+row-after-spec = tie.close (tie.spec send-update-requires quiet-requires flagged-requires send-write-requires quiet-requires-2 receive-requires quiet-requires-3 connect-requires quiet-requires-4 written-requires returns returns-2 returns-3 returns-4 returns-5 returns-6)

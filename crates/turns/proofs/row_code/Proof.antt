@@ -50,35 +50,35 @@ handle-write-code-requires c κs = let asks = c .before .pre in record { within 
 returns : tie.Need-returns
 returns c =
     let start = c .before .before .before in
-    rw (c .before .before .match .keys1) (c .allowed-code .ensures ∙ ap (λ (x : Bool). cond x stepDone notAllowed) (c .before .may-learn .ensures) ∙ learn-answer (start .args .node))
+    rw (c .before .before .match .keys1) (c .allowed-code .ensures ∙ ap (λ (x : Bool). cond x stepDone notAllowed) (c .before .may-learn .ensures) ∙ learn-answer (start .args .controller))
 
 returns-2 : tie.Need-returns-2
 returns-2 c =
     let start = c .before .before .before in
     rw (c .before .before .match .keys2)
     (c .send-code .ensures ∙ ap (λ (x : Bool). sendAnswer x (leb queueLength (start .args .stream .requests .len))) (c .before .may-send-update .ensures)
-    ∙ send-update-answer (start .args .ask .count) (start .args .node) (start .args .stream) (start .pre .ordered-stream) (start .args .ask .number))
+    ∙ send-update-answer (start .args .ask .count) (start .args .controller) (start .args .stream) (start .pre .ordered-stream) (start .args .ask .node))
 
 returns-3 : tie.Need-returns-3
 returns-3 c =
     let start = c .before .before .before in
     rw (c .before .before .match .keys3)
     (c .allowed-code2 .ensures ∙ ap (λ (x : Bool). cond x stepDone notAllowed) (c .before .may-receive-update .ensures)
-    ∙ receive-update-answer (start .args .ask .count) (start .args .node) (start .args .stream) (start .args .ask .number))
+    ∙ receive-update-answer (start .args .ask .count) (start .args .controller) (start .args .stream) (start .args .ask .node))
 
 returns-4 : tie.Need-returns-4
 returns-4 c =
     let start = c .before .before .before in
     rw (c .before .before .match .keys4)
     (c .send-code2 .ensures ∙ ap (λ (x : Bool). sendAnswer x (leb queueLength (start .args .stream .requests .len))) (c .before .may-send-write .ensures)
-    ∙ send-write-answer (start .args .ask .count) (start .args .node) (start .args .stream) (start .pre .ordered-stream) (start .args .ask .number))
+    ∙ send-write-answer (start .args .ask .count) (start .args .controller) (start .args .stream) (start .pre .ordered-stream) (start .args .ask .node))
 
 returns-5 : tie.Need-returns-5
 returns-5 c =
     let start = c .before .before .before in
     rw (c .before .before .match .keys5)
     (c .allowed-code3 .ensures ∙ ap (λ (x : Bool). cond x stepDone notAllowed) (c .before .may-receive-write .ensures)
-    ∙ receive-write-answer (start .args .ask .count) (start .args .node) (start .args .stream))
+    ∙ receive-write-answer (start .args .ask .count) (start .args .controller) (start .args .stream))
 
 returns-6 : tie.Need-returns-6
 returns-6 c = rw (c .before .match .keys6) (c .connect-code .ensures)

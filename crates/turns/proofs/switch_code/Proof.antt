@@ -1,7 +1,7 @@
 -- `switch_code` meets its contract. Assumes nothing.
 use mathlib.Core.Path.{_∙_}
 use mathlib.Core.Logic.{inl, inr}
-use Rattle.asks.specs.Kinds.{last-wire}
+use Rattle.asks.specs.Kinds.{last-board}
 use Rattle.turns.specs.Answers.{close-answer, shutdown-answer, startup-answer}
 use borrow.Author.Needs.{needs}
 use Rattle.turns.proofs.switch_code.Statement.{statement}
@@ -22,7 +22,7 @@ allowed-code-requires-2 c κs = search needs
 returns : tie.Need-returns
 returns c =
     let start = c .before .before in
-    rw (c .before .match .keys1) (c .close-code .ensures ∙ close-answer (start .args .ask .count) (start .args .ask .running) (start .args .streams) (start .args .claims) (start .args .ask .number))
+    rw (c .before .match .keys1) (c .close-code .ensures ∙ close-answer (start .args .ask .count) (start .args .ask .running) (start .args .streams) (start .args .claims) (start .args .ask .node))
 
 returns-2 : tie.Need-returns-2
 returns-2 c = rw (c .before .match .keys2) (c .handle-update-code .ensures)
@@ -36,7 +36,7 @@ returns-4 : tie.Need-returns-4
 returns-4 c =
     let m = c .before .before .match in
     let start = c .before .before .before in
-    rw (last-wire _ (start .pre .0 .kind (start .pre .1)) (m .rest .0 .0 .1) (m .rest .0 .1) (m .rest .1))
+    rw (last-board _ (start .pre .0 .kind (start .pre .1)) (m .rest .0 .0 .1) (m .rest .0 .1) (m .rest .1))
     (c .allowed-code2 .ensures ∙ startup-answer (start .args .ask .count) (start .args .ask .running) (start .args .streams) (start .args .claims))
 
 pub switch-code-spec : {M : Type 1} → statement M

@@ -12,7 +12,7 @@ returns : tie.Need-returns
 returns c =
     let handled = c .before .before .before in
     let start = handled .before in
-    ap (handledRow (start .args .ask) (start .args .node) (start .args .claims)) (handled .handle-write .ensures)
+    ap (handledRow (start .args .ask) (start .args .controller) (start .args .claims)) (handled .handle-write .ensures)
 
 pub written-spec : {M : Type 1} → statement M
 written-spec = tie.close (tie.spec handle-write-requires returns)

@@ -7,7 +7,7 @@ use borrow.Author.Needs.{needs}
 use Rattle.parts.specs.declared.Request.{Request}
 use Rattle.parts.specs.declared.Term.{Term}
 use Rattle.state.specs.declared.Stream.{Stream}
-use Rattle.streams.specs.Does.{told}
+use Rattle.streams.specs.Does.{responded}
 use Rattle.writing.specs.declared.Handled.{Handled}
 use Rattle.writing.specs.Does.{judged}
 use Rattle.writing.proofs.Writing.{has-head, headId, accepted, denied}
@@ -44,26 +44,26 @@ array-copy-out-last c = search needs
 written-requires : tie.Need-written-requires
 written-requires c κs = search needs
 
-tell-requires : tie.Need-tell-requires
-tell-requires c κs = search needs
+respond-requires : tie.Need-respond-requires
+respond-requires c κs = search needs
 
 returns : tie.Need-returns
 returns c =
     let start = c .before .before .before .before .before .before .before .before .before .before in
     ap₂ {C = Handled} (λ (s : Stream) (t : Term). record { stream = s; last = getD (start .args .claims .terms) (start .args .node - 1) (record { 0 = 0 }); accepted = true; term = t })
-    (c .tell .ensures ∙ ap₂ told (c .before .written .ensures) (c .before .before .before .before .before .before .before .without-head .ensures)) (ap (λ (r : Request). r .term) (c .before .before .before .before .before .before .before .before .before .head .ensures))
+    (c .respond .ensures ∙ ap₂ responded (c .before .written .ensures) (c .before .before .before .before .before .before .before .without-head .ensures)) (ap (λ (r : Request). r .term) (c .before .before .before .before .before .before .before .before .before .head .ensures))
     ∙ accepted (start .pre) (judges (c .before .before .before .before .before .before) _ (c .before .before .before .before .before .if1 .taken))
 
 written-requires-2 : tie.Need-written-requires-2
 written-requires-2 c κs = search needs
 
-tell-requires-2 : tie.Need-tell-requires-2
-tell-requires-2 c κs = search needs
+respond-requires-2 : tie.Need-respond-requires-2
+respond-requires-2 c κs = search needs
 
 returns-2 : tie.Need-returns-2
 returns-2 c =
     let start = c .before .before .before .before .before .before .before .before in
-    ap {B = Handled} (λ (s : Stream). record { stream = s; last = start .args .claims .last; accepted = false; term = record { 0 = 0 } }) (c .tell2 .ensures ∙ ap₂ told (c .before .written2 .ensures) (c .before .before .before .before .before .without-head .ensures))
+    ap {B = Handled} (λ (s : Stream). record { stream = s; last = start .args .claims .last; accepted = false; term = record { 0 = 0 } }) (c .respond2 .ensures ∙ ap₂ responded (c .before .written2 .ensures) (c .before .before .before .before .before .without-head .ensures))
     ∙ denied (start .pre) (judges (c .before .before .before .before) _ (c .before .before .before .if1 .left))
 
 pub handle-write-spec : {M : Type 1} → statement M
@@ -78,8 +78,8 @@ handle-write-spec =
     mul-last
     array-copy-out-last
     written-requires
-    tell-requires
+    respond-requires
     returns
     written-requires-2
-    tell-requires-2
+    respond-requires-2
     returns-2)

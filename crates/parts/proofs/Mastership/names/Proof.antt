@@ -12,8 +12,8 @@ use Rattle.parts.proofs.Mastership.names.Statement.{statement}
 use Rattle.parts.proofs.Mastership.names.Tie as tie
 
 -- how many backups are held
-held : (c : tie.Start) → length (holdMastership (c .args .self) .backups) ≡ min (c .args .self .count) 7
-held c = length-take _ _ ∙ ap (λ (k : ℕ). min (c .args .self .count) k) (simp length-map at (c .good .0 .1 .1 .1 .1 .0 .1 .0 .1))
+held : (c : tie.Start) → length (holdMastership (c .args .self) .backups) ≡ min (c .args .self .len) 7
+held c = length-take _ _ ∙ ap (λ (k : ℕ). min (c .args .self .len) k) (simp length-map at (c .good .0 .1 .1 .1 .1 .0 .1 .0 .1))
 
 place-of-requires : tie.Need-place-of-requires
 place-of-requires c κs = search needs
@@ -30,7 +30,7 @@ returns-2 c =
     let start = c .before .before .before in
     let n = held start in
     let e = c .before .before .place-of .ensures in
-    sym (named-place (start .args .node) (holdMastership (start .args .self)) ∙ same-leb (placeOf (start .args .node) (holdMastership (start .args .self))) (length (holdMastership (start .args .self) .backups)) (c .before .before .place-of .result) (start .args .self .count) (λ h. omega arith) (λ h. omega arith))
+    sym (named-place (start .args .node) (holdMastership (start .args .self)) ∙ same-leb (placeOf (start .args .node) (holdMastership (start .args .self))) (length (holdMastership (start .args .self) .backups)) (c .before .before .place-of .result) (start .args .self .len) (λ h. omega arith) (λ h. omega arith))
 
 pub names-spec : {M : Type 1} → statement M
 names-spec = tie.close (tie.spec place-of-requires returns returns-2)

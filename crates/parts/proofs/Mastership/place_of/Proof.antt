@@ -15,7 +15,7 @@ use Rattle.parts.proofs.Mastership.place_of.Statement.{statement}
 use Rattle.parts.proofs.Mastership.place_of.Tie as tie
 
 abbrev Inv-loop : tie.InvT-loop
-Inv-loop node self i₀ i = (i ≤ 7) × (i ≤ self .count) × (self .master ≢ node) × (before node (take (self .count) (self .backups)) ≡ i + before node (drop i (take (self .count) (self .backups))))
+Inv-loop node self i₀ i = (i ≤ 7) × (i ≤ self .len) × (self .master ≢ node) × (before node (take (self .len) (self .backups)) ≡ i + before node (drop i (take (self .len) (self .backups))))
 
 abbrev μ-loop : tie.MeasureT-loop
 μ-loop node self i₀ i = 7 - i
@@ -44,7 +44,7 @@ returns-2 c =
     let turn = c .before .before in
     let backups = turn .before .before .args .t1 .backups in
     let n = seven (turn .before .before) in
-    let e = before-end _ (take (turn .before .before .args .t1 .count) backups) (turn .loop .i) (turn .loop .inv .3) (rw length-take (omega arith)) in
+    let e = before-end _ (take (turn .before .before .args .t1 .len) backups) (turn .loop .i) (turn .loop .inv .3) (rw length-take (omega arith)) in
     simp (ne-eqb _ _ (turn .loop .inv .2), e)
 
 element-copy-out-if3 : tie.Need-element-copy-out-if3 Inv-loop μ-loop
@@ -59,7 +59,7 @@ returns-3 c =
     let turn = c .before .before .before .before in
     let start = turn .before .before in
     let n = seven start in
-    let e = before-here _ (take (start .args .t1 .count) (start .args .t1 .backups)) (turn .loop .i) (turn .loop .inv .3) (rw length-take (omega arith)) (getD-take (start .args .t1 .count) (start .args .t1 .backups) (turn .loop .i) 0 (omega arith) ∙ c .if3 .taken) in
+    let e = before-here _ (take (start .args .t1 .len) (start .args .t1 .backups)) (turn .loop .i) (turn .loop .inv .3) (rw length-take (omega arith)) (getD-take (start .args .t1 .len) (start .args .t1 .backups) (turn .loop .i) 0 (omega arith) ∙ c .if3 .taken) in
     simp (ne-eqb _ _ (turn .loop .inv .2), e)
 
 add-i : tie.Need-add-i Inv-loop μ-loop
@@ -76,7 +76,7 @@ loop-again c =
       omega arith,
       omega arith,
       turn .loop .inv .2,
-      before-on _ (take (start .args .t1 .count) (start .args .t1 .backups)) (turn .loop .i) (turn .loop .inv .3) (rw length-take (omega arith)) (λ e. c .if3 .left (sym (getD-take (start .args .t1 .count) (start .args .t1 .backups) (turn .loop .i) 0 (omega arith)) ∙ e)),
+      before-on _ (take (start .args .t1 .len) (start .args .t1 .backups)) (turn .loop .i) (turn .loop .inv .3) (rw length-take (omega arith)) (λ e. c .if3 .left (sym (getD-take (start .args .t1 .len) (start .args .t1 .backups) (turn .loop .i) 0 (omega arith)) ∙ e)),
     )
 
 returns-4 : tie.Need-returns-4 Inv-loop μ-loop
@@ -85,7 +85,7 @@ returns-4 c =
     let turn = c .before in
     let start = turn .before .before in
     let n = seven start in
-    let e = before-end _ (take (start .args .t1 .count) (start .args .t1 .backups)) (turn .loop .i) (turn .loop .inv .3) (rw length-take (omega arith)) in
+    let e = before-end _ (take (start .args .t1 .len) (start .args .t1 .backups)) (turn .loop .i) (turn .loop .inv .3) (rw length-take (omega arith)) in
     simp (ne-eqb _ _ (turn .loop .inv .2), e) (omega arith)
 
 pub place-of-spec : {M : Type 1} → statement M

@@ -2,7 +2,7 @@
 use borrow.Author.Needs.{needs}
 use Rattle.seqs.specs.Tests.{tests}
 use Rattle.queues.specs.Tests.{backupAt}
-use Rattle.queues.specs.Each.{told}
+use Rattle.queues.specs.Each.{from-result}
 use Rattle.queues.proofs.masterships.backup_fits.Statement.{statement}
 use Rattle.queues.proofs.masterships.backup_fits.Tie as tie
 
@@ -21,11 +21,11 @@ add-result c = search needs
 
 returns-2 : tie.Need-returns-2
 unfolding backupAt
-returns-2 c = search (tests, told (c .before .before .is-node .ensures) (c .before .if2 .taken), ← c .place-of .ensures)
+returns-2 c = search (tests, from-result (c .before .before .is-node .ensures) (c .before .if2 .taken), ← c .place-of .ensures)
 
 returns-3 : tie.Need-returns-3
 unfolding backupAt
-returns-3 c = search (tests, told (c .before .is-node .ensures) (c .if2 .left))
+returns-3 c = search (tests, from-result (c .before .is-node .ensures) (c .if2 .left))
 
 pub backup-fits-spec : {M : Type 1} → statement M
 backup-fits-spec = tie.close (tie.spec returns is-node-requires place-of-requires add-result returns-2 returns-3)

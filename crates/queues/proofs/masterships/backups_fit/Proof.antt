@@ -8,7 +8,7 @@ use borrow.Author.Tests.{le-leb}
 use Rattle.rules.specs.Range.{each}
 use Rattle.seqs.specs.Tests.{tests}
 use Rattle.queues.specs.Tests.{backupPlace, backupsTest}
-use Rattle.queues.specs.Each.{told, each-more, each-not}
+use Rattle.queues.specs.Each.{from-result, each-more, each-not}
 use Rattle.queues.proofs.masterships.backups_fit.Statement.{statement}
 use Rattle.queues.proofs.masterships.backups_fit.Tie as tie
 
@@ -46,7 +46,7 @@ loop-again c =
     let turn = c .before .before .before .before in
     let a = turn .before .before .args in
     let p = backupPlace (a .count) (a .t2) in
-    (omega arith, each-more p (turn .loop .i) (turn .loop .inv .1) (told (c .before .backup-fits .ensures) (c .if2 .taken)))
+    (omega arith, each-more p (turn .loop .i) (turn .loop .inv .1) (from-result (c .before .backup-fits .ensures) (c .if2 .taken)))
 
 returns-2 : tie.Need-returns-2 Inv-loop μ-loop
 unfolding backupsTest
@@ -54,7 +54,7 @@ returns-2 c =
     let turn = c .before .before .before .before in
     let a = turn .before .before .args in
     let p = backupPlace (a .count) (a .t2) in
-    simp (le-leb _ _ (turn .before .if1 .left), each-not p 7 (turn .loop .i) (omega arith) (told (c .before .backup-fits .ensures) (c .if2 .left)))
+    simp (le-leb _ _ (turn .before .if1 .left), each-not p 7 (turn .loop .i) (omega arith) (from-result (c .before .backup-fits .ensures) (c .if2 .left)))
 
 returns-3 : tie.Need-returns-3 Inv-loop μ-loop
 unfolding backupsTest

@@ -9,7 +9,7 @@ use Rattle.rules.specs.Range.{each}
 use Rattle.seqs.specs.Tests.{tests}
 use Rattle.parts.specs.Hold.{pastMastership}
 use Rattle.queues.specs.Tests.{place, placesTest, eventTest, blankTest, eventsTest}
-use Rattle.queues.specs.Each.{told, each-more, each-not}
+use Rattle.queues.specs.Each.{from-result, each-more, each-not}
 use Rattle.queues.proofs.masterships.events_fit.Statement.{statement}
 use Rattle.queues.proofs.masterships.events_fit.Tie as tie
 
@@ -50,7 +50,7 @@ loop-again c =
     let turn = c .before .before .before .before in
     let a = turn .before .before .args in
     let p = place (eventTest (a .count)) blankTest pastMastership (a .t2 .items) (a .t2 .len) in
-    (omega arith, each-more p (turn .loop .i) (turn .loop .inv .1) (told (c .before .event-place-fits .ensures) (c .if2 .taken)))
+    (omega arith, each-more p (turn .loop .i) (turn .loop .inv .1) (from-result (c .before .event-place-fits .ensures) (c .if2 .taken)))
 
 returns-2 : tie.Need-returns-2 Inv-loop μ-loop
 unfolding eventsTest placesTest
@@ -58,7 +58,7 @@ returns-2 c =
     let turn = c .before .before .before .before in
     let a = turn .before .before .args in
     let p = place (eventTest (a .count)) blankTest pastMastership (a .t2 .items) (a .t2 .len) in
-    simp (le-leb _ _ (turn .before .if1 .left), each-not p 8 (turn .loop .i) (omega arith) (told (c .before .event-place-fits .ensures) (c .if2 .left)))
+    simp (le-leb _ _ (turn .before .if1 .left), each-not p 8 (turn .loop .i) (omega arith) (from-result (c .before .event-place-fits .ensures) (c .if2 .left)))
 
 returns-3 : tie.Need-returns-3 Inv-loop μ-loop
 unfolding eventsTest placesTest

@@ -10,7 +10,7 @@ use Rattle.seqs.specs.Tests.{tests}
 use Rattle.parts.specs.Hold.{noRequest}
 use Rattle.state.specs.Tidy.{blankRequest}
 use Rattle.queues.specs.Tests.{place, placesTest, requestTest, requestsTest}
-use Rattle.queues.specs.Each.{told, each-more, each-not}
+use Rattle.queues.specs.Each.{from-result, each-more, each-not}
 use Rattle.queues.proofs.messages.requests_fit.Statement.{statement}
 use Rattle.queues.proofs.messages.requests_fit.Tie as tie
 
@@ -51,7 +51,7 @@ loop-again c =
     let turn = c .before .before .before .before in
     let a = turn .before .before .args in
     let p = place requestTest blankRequest noRequest (a .t1 .items) (a .t1 .len) in
-    (omega arith, each-more p (turn .loop .i) (turn .loop .inv .1) (told (c .before .request-place-fits .ensures) (c .if2 .taken)))
+    (omega arith, each-more p (turn .loop .i) (turn .loop .inv .1) (from-result (c .before .request-place-fits .ensures) (c .if2 .taken)))
 
 returns-2 : tie.Need-returns-2 Inv-loop μ-loop
 unfolding requestsTest placesTest
@@ -59,7 +59,7 @@ returns-2 c =
     let turn = c .before .before .before .before in
     let a = turn .before .before .args in
     let p = place requestTest blankRequest noRequest (a .t1 .items) (a .t1 .len) in
-    simp (le-leb _ _ (turn .before .if1 .left), each-not p 8 (turn .loop .i) (omega arith) (told (c .before .request-place-fits .ensures) (c .if2 .left)))
+    simp (le-leb _ _ (turn .before .if1 .left), each-not p 8 (turn .loop .i) (omega arith) (from-result (c .before .request-place-fits .ensures) (c .if2 .left)))
 
 returns-3 : tie.Need-returns-3 Inv-loop μ-loop
 unfolding requestsTest placesTest

@@ -1,7 +1,7 @@
 -- `response_is_blank` meets its contract. Assumes nothing.
 use borrow.Author.Needs.{needs}
 use Rattle.state.specs.Tidy.{blankResponse}
-use Rattle.queues.specs.Each.{told}
+use Rattle.queues.specs.Each.{from-result}
 use Rattle.queues.proofs.messages.response_is_blank.Statement.{statement}
 use Rattle.queues.proofs.messages.response_is_blank.Tie as tie
 
@@ -13,15 +13,15 @@ is-no-status-requires c κs = search needs
 
 returns : tie.Need-returns
 unfolding blankResponse
-returns c = simp (told (c .before .before .before .before .is-nothing .ensures) (c .before .before .before .if1 .taken), told (c .before .before .is-no-status .ensures) (c .before .if2 .taken))
+returns c = simp (from-result (c .before .before .before .before .is-nothing .ensures) (c .before .before .before .if1 .taken), from-result (c .before .before .is-no-status .ensures) (c .before .if2 .taken))
 
 returns-2 : tie.Need-returns-2
 unfolding blankResponse
-returns-2 c = simp (told (c .before .before .before .is-nothing .ensures) (c .before .before .if1 .taken), told (c .before .is-no-status .ensures) (c .if2 .left))
+returns-2 c = simp (from-result (c .before .before .before .is-nothing .ensures) (c .before .before .if1 .taken), from-result (c .before .is-no-status .ensures) (c .if2 .left))
 
 returns-3 : tie.Need-returns-3
 unfolding blankResponse
-returns-3 c = simp (told (c .before .is-nothing .ensures) (c .if1 .left))
+returns-3 c = simp (from-result (c .before .is-nothing .ensures) (c .if1 .left))
 
 pub response-is-blank-spec : {M : Type 1} → statement M
 response-is-blank-spec = tie.close (tie.spec is-nothing-requires is-no-status-requires returns returns-2 returns-3)

@@ -10,7 +10,7 @@ use Rattle.seqs.specs.Tests.{tests}
 use Rattle.state.specs.Hold.{noWrite}
 use Rattle.state.specs.Tidy.{blankWrite}
 use Rattle.queues.specs.Tests.{place, placesTest}
-use Rattle.queues.specs.Each.{told, each-more, each-not}
+use Rattle.queues.specs.Each.{from-result, each-more, each-not}
 use Rattle.ranges.specs.Tests.{writeTest, historyTest}
 use Rattle.ranges.proofs.rows.history_fits.Statement.{statement}
 use Rattle.ranges.proofs.rows.history_fits.Tie as tie
@@ -52,7 +52,7 @@ loop-again c =
     let turn = c .before .before .before .before in
     let a = turn .before .before .args in
     let p = place (writeTest (a .count)) blankWrite noWrite (a .t2 .items) (a .t2 .len) in
-    (omega arith, each-more p (turn .loop .i) (turn .loop .inv .1) (told (c .before .write-place-fits .ensures) (c .if2 .taken)))
+    (omega arith, each-more p (turn .loop .i) (turn .loop .inv .1) (from-result (c .before .write-place-fits .ensures) (c .if2 .taken)))
 
 returns-2 : tie.Need-returns-2 Inv-loop μ-loop
 unfolding historyTest placesTest
@@ -60,7 +60,7 @@ returns-2 c =
     let turn = c .before .before .before .before in
     let a = turn .before .before .args in
     let p = place (writeTest (a .count)) blankWrite noWrite (a .t2 .items) (a .t2 .len) in
-    simp (le-leb _ _ (turn .before .if1 .left), each-not p 1024 (turn .loop .i) (omega arith) (told (c .before .write-place-fits .ensures) (c .if2 .left)))
+    simp (le-leb _ _ (turn .before .if1 .left), each-not p 1024 (turn .loop .i) (omega arith) (from-result (c .before .write-place-fits .ensures) (c .if2 .left)))
 
 returns-3 : tie.Need-returns-3 Inv-loop μ-loop
 unfolding historyTest placesTest

@@ -5,7 +5,7 @@ use Prim.Native.Nat.{ℕ, _≤_, _-_}
 use native.Mathlib.Omega.{arith}
 use borrow.Author.Needs.{needs}
 use Rattle.rules.specs.Range.{each}
-use Rattle.queues.specs.Each.{told, each-more, each-not}
+use Rattle.queues.specs.Each.{from-result, each-more, each-not}
 use Rattle.ranges.specs.Tests.{idPlace, idsTest}
 use Rattle.ranges.proofs.rows.ids_fit.Statement.{statement}
 use Rattle.ranges.proofs.rows.ids_fit.Tie as tie
@@ -43,7 +43,7 @@ loop-again c =
     let turn = c .before .before .before .before in
     let a = turn .before .args in
     let p = idPlace (a .count) (a .t2) in
-    (omega arith, each-more p (turn .loop .i) (turn .loop .inv .1) (told (c .before .id-fits .ensures) (c .if1 .taken)))
+    (omega arith, each-more p (turn .loop .i) (turn .loop .inv .1) (from-result (c .before .id-fits .ensures) (c .if1 .taken)))
 
 returns : tie.Need-returns Inv-loop μ-loop
 unfolding idsTest
@@ -51,7 +51,7 @@ returns c =
     let turn = c .before .before .before .before in
     let a = turn .before .args in
     let p = idPlace (a .count) (a .t2) in
-    sym (each-not p (a .count) (turn .loop .i) (omega arith) (told (c .before .id-fits .ensures) (c .if1 .left)))
+    sym (each-not p (a .count) (turn .loop .i) (omega arith) (from-result (c .before .id-fits .ensures) (c .if1 .left)))
 
 returns-2 : tie.Need-returns-2 Inv-loop μ-loop
 unfolding idsTest

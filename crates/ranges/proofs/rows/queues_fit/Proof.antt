@@ -1,6 +1,6 @@
 -- `queues_fit` meets its contract. Assumes nothing.
 use borrow.Author.Needs.{needs}
-use Rattle.queues.specs.Each.{told}
+use Rattle.queues.specs.Each.{from-result}
 use Rattle.ranges.specs.Tests.{queuesTest}
 use Rattle.ranges.proofs.rows.queues_fit.Statement.{statement}
 use Rattle.ranges.proofs.rows.queues_fit.Tie as tie
@@ -13,11 +13,11 @@ responses-fit-requires c κs = search needs
 
 returns : tie.Need-returns
 unfolding queuesTest
-returns c = simp (told (c .before .before .requests-fit .ensures) (c .before .if1 .taken)) (c .responses-fit .ensures)
+returns c = simp (from-result (c .before .before .requests-fit .ensures) (c .before .if1 .taken)) (c .responses-fit .ensures)
 
 returns-2 : tie.Need-returns-2
 unfolding queuesTest
-returns-2 c = simp (told (c .before .requests-fit .ensures) (c .if1 .left))
+returns-2 c = simp (from-result (c .before .requests-fit .ensures) (c .if1 .left))
 
 pub queues-fit-spec : {M : Type 1} → statement M
 queues-fit-spec = tie.close (tie.spec requests-fit-requires responses-fit-requires returns returns-2)

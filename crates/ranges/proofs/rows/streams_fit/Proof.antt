@@ -5,7 +5,7 @@ use Prim.Native.Nat.{ℕ, _≤_, _-_}
 use native.Mathlib.Omega.{arith}
 use borrow.Author.Needs.{needs}
 use Rattle.rules.specs.Range.{each}
-use Rattle.queues.specs.Each.{told, each-more, each-not}
+use Rattle.queues.specs.Each.{from-result, each-more, each-not}
 use Rattle.ranges.specs.Tests.{streamPlace, streamsTest}
 use Rattle.ranges.proofs.rows.streams_fit.Statement.{statement}
 use Rattle.ranges.proofs.rows.streams_fit.Tie as tie
@@ -55,7 +55,7 @@ loop-again c =
     let turn = c .before .before .before .before .before .before in
     let a = turn .before .before .args in
     let p = streamPlace (a .count) (a .running) (a .t3 .streams) (a .t3 .claims) in
-    (omega arith, each-more p (turn .loop .i) (turn .loop .inv .1) (told {given = p (turn .loop .i)} (c .before .stream-place-fits .ensures) (c .if1 .taken)))
+    (omega arith, each-more p (turn .loop .i) (turn .loop .inv .1) (from-result {given = p (turn .loop .i)} (c .before .stream-place-fits .ensures) (c .if1 .taken)))
 
 returns : tie.Need-returns Inv-loop μ-loop
 unfolding streamsTest
@@ -63,7 +63,7 @@ returns c =
     let turn = c .before .before .before .before .before .before in
     let a = turn .before .before .args in
     let p = streamPlace (a .count) (a .running) (a .t3 .streams) (a .t3 .claims) in
-    sym (each-not p 8 (turn .loop .i) (omega arith) (told {given = p (turn .loop .i)} (c .before .stream-place-fits .ensures) (c .if1 .left)))
+    sym (each-not p 8 (turn .loop .i) (omega arith) (from-result {given = p (turn .loop .i)} (c .before .stream-place-fits .ensures) (c .if1 .left)))
 
 returns-2 : tie.Need-returns-2 Inv-loop μ-loop
 unfolding streamsTest

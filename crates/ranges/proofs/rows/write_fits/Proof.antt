@@ -1,7 +1,7 @@
 -- `write_fits` meets its contract. Assumes nothing.
 use borrow.Author.Needs.{needs}
 use Rattle.rules.specs.Range.{writeFits}
-use Rattle.queues.specs.Each.{told}
+use Rattle.queues.specs.Each.{from-result}
 use Rattle.ranges.proofs.rows.write_fits.Statement.{statement}
 use Rattle.ranges.proofs.rows.write_fits.Tie as tie
 
@@ -13,11 +13,11 @@ is-term-requires c κs = search needs
 
 returns : tie.Need-returns
 unfolding writeFits
-returns c = simp (told (c .before .before .is-node .ensures) (c .before .if1 .taken)) (c .is-term .ensures)
+returns c = simp (from-result (c .before .before .is-node .ensures) (c .before .if1 .taken)) (c .is-term .ensures)
 
 returns-2 : tie.Need-returns-2
 unfolding writeFits
-returns-2 c = simp (told (c .before .is-node .ensures) (c .if1 .left))
+returns-2 c = simp (from-result (c .before .is-node .ensures) (c .if1 .left))
 
 pub write-fits-spec : {M : Type 1} → statement M
 write-fits-spec = tie.close (tie.spec is-node-requires is-term-requires returns returns-2)
