@@ -1,4 +1,3 @@
 pub mod Difference
-pub mod Reads
 pub mod Entries
 pub mod Runs

@@ -10,12 +10,12 @@ ghost use Rattle.state.specs.Tidy.{blankWrite};
 ghost use Rattle.ranges.specs.Tests.{nodeTest, blankNodeTest, nodesTest, shutTest, queuesTest, streamTest, streamsTest, idTest, idsTest, writeTest, historyTest};
 use parts::ElectionId;
 use parts::Term;
+use parts::Write;
 use state::Claims;
 use state::Core;
 use state::History;
 use state::Node;
 use state::Stream;
-use state::Write;
 
 fn node_fits(count: u8, row: Node) -> bool
     ensures { λ r. ⌜ r ≡ nodeTest count row ⌝ }

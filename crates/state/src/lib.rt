@@ -9,6 +9,7 @@ use parts::Mastership;
 use parts::RequestQueue;
 use parts::ResponseQueue;
 use parts::Term;
+use parts::Write;
 
 // A controller node. `says` is the flag "device says master".
 pub struct Node {
@@ -38,12 +39,6 @@ pub struct Core {
     pub nodes: [Node; 8],
     pub streams: [Stream; 8],
     pub claims: Claims,
-}
-
-// An accepted write.
-pub struct Write {
-    pub node: u8,
-    pub term: Term,
 }
 
 pub struct History {

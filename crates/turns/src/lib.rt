@@ -22,7 +22,7 @@ use state::Wire;
 pub const LEARN: u8 = 3;
 
 // The write of a step, where it accepted one.
-pub struct Entry {
+pub struct MaybeWrite {
     pub accepted: bool,
     pub node: u8,
     pub term: Term,
@@ -33,7 +33,7 @@ pub struct Row {
     pub stream: Stream,
     pub says: bool,
     pub claims: Claims,
-    pub entry: Entry,
+    pub entry: MaybeWrite,
 }
 
 // ---- the answers
@@ -112,7 +112,7 @@ pub fn wire_code(ask: Ask, streams: [Stream; 8], claims: Claims) -> u8
 fn quiet(ask: Ask, node: Node, claims: Claims, stream: Stream) -> Row
     ensures { λ r. ⌜ r ≡ quiet ask node claims stream ⌝ }
 {
-    let entry = Entry {
+    let entry = MaybeWrite {
         accepted: false,
         node: ask.number,
         term: Term(0),
@@ -146,7 +146,7 @@ fn written(ask: Ask, node: Node, stream: Stream, claims: Claims) -> Row
     let term = handled.term;
     let mut held = claims;
     held.last = last;
-    let entry = Entry {
+    let entry = MaybeWrite {
         accepted: handled.accepted,
         node: ask.number,
         term: term,
