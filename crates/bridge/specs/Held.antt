@@ -14,9 +14,9 @@ use Rattle.laws.specs.RangeTest.{range-sound}
 use Rattle.seqs.specs.Arrays.{column, table}
 use Rattle.seqs.specs.Padded.{held-padded}
 use Rattle.seqs.specs.Tables.{table-column}
-use Rattle.parts.specs.Hold.{holdMastership, packMastership, noMastership, holdRequest, packRequest, noRequest, holdResponse, packResponse, noResponse}
+use Rattle.parts.specs.Hold.{holdMastership, packMastership, noMastership, holdRequest, packRequest, noRequest, holdResponse, packResponse, noResponse, holdWrite, packWrite}
 use Rattle.parts.specs.Ordered.{mastership-back, request-back, response-back}
-use Rattle.state.specs.Hold.{eventsAt, learnedAt, saysAt, openAt, sentAt, requestsAt, responsesAt, idAt, termAt, controllerRow, streamRow, idRow, termRow, packControllers, packStreams, packClaims, packCore, packHistory, packWrite, noWrite, holdWrite, holdBoard, holdDesk, holdCore, holdHistory, hold, represent}
+use Rattle.state.specs.Hold.{eventsAt, learnedAt, saysAt, openAt, sentAt, requestsAt, responsesAt, idAt, termAt, controllerRow, streamRow, idRow, termRow, packControllers, packStreams, packClaims, packCore, packHistory, noWrite, holdBoard, holdDesk, holdCore, holdHistory, hold, represent}
 
 -- A column as long as there are nodes, of rows that were made of it.
 column-back : {R B : Type 0} (g : R → B) (f : ℕ → R) (l : List B) (d : B) (n : ℕ) → n ≤ mostNodes → length l ≡ n → ((i : ℕ) → g (f i) ≡ getD l i d) → column g n (table mostNodes f) ≡ l

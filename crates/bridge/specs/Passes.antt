@@ -15,8 +15,8 @@ use Rattle.laws.specs.RangeTest.{range-sound}
 use Rattle.laws.specs.Tests.{_&_, as-is, is-yes, is-le, is-all}
 use Rattle.laws.specs.Lists.{all-each}
 use Rattle.seqs.specs.Arrays.{padded, table}
-use Rattle.parts.specs.Hold.{asIs, packMastership, noMastership, packMessage, packRequest, noRequest, packStatus, packResponse, noResponse}
-use Rattle.state.specs.Hold.{packController, packStream, controllerRow, streamRow, idRow, termRow, packControllers, packStreams, packClaims, packCore, packHistory, packWrite, noWrite, hold, represent}
+use Rattle.parts.specs.Hold.{asIs, packMastership, noMastership, packMessage, packRequest, noRequest, packStatus, packResponse, noResponse, packWrite}
+use Rattle.state.specs.Hold.{packController, packStream, controllerRow, streamRow, idRow, termRow, packControllers, packStreams, packClaims, packCore, packHistory, noWrite, hold, represent}
 use Rattle.state.specs.Tidy.{isZero, noMessage, noStatus, blankMastership, blankRequest, blankResponse, tidyMastership, tidyRequest, tidyResponse, tidyPlaces, tidyController, tidyStream, blankController, blankStream, blankId, blankTerm, tidyCore, anyWrite, blankWrite, tidyHistory, stateFits}
 use Rattle.bridge.specs.Rows.{taken-table, dropped-table, taken-padded, dropped-padded}
 use Rattle.bridge.specs.Held.{hold-represent}

@@ -24,14 +24,14 @@ use Rattle.parts.specs.declared.Request.{Request}
 use Rattle.parts.specs.declared.Response.{Response}
 use Rattle.parts.specs.declared.ElectionId.{ElectionId}
 use Rattle.parts.specs.declared.Term.{Term}
-use Rattle.parts.specs.Hold.{holdMastership, packMastership, noMastership, asIs, holdMessage, packMessage, holdStatus, packStatus, holdRequest, packRequest, noRequest, holdResponse, packResponse, noResponse}
+use Rattle.parts.specs.Hold.{holdMastership, packMastership, noMastership, asIs, holdMessage, packMessage, holdStatus, packStatus, holdRequest, packRequest, noRequest, holdResponse, packResponse, noResponse, holdWrite, packWrite}
 use Rattle.state.specs.declared.Controller.{Controller}
 use Rattle.state.specs.declared.Stream.{Stream}
 use Rattle.state.specs.declared.Claims.{Claims}
-use Rattle.state.specs.declared.Write.{Write}
+use Rattle.parts.specs.declared.Write.{Write}
 use Rattle.state.specs.declared.History.{History}
 use Rattle.state.specs.declared.State.{State}
-use Rattle.state.specs.Hold.{eventsAt, learnedAt, saysAt, openAt, sentAt, requestsAt, responsesAt, idAt, termAt, packController, packStream, controllerRow, streamRow, idRow, termRow, packControllers, packStreams, packClaims, packCore, packHistory, packWrite, noWrite, holdWrite, holdBoard, holdDesk, holdCore, holdHistory, hold, represent}
+use Rattle.state.specs.Hold.{eventsAt, learnedAt, saysAt, openAt, sentAt, requestsAt, responsesAt, idAt, termAt, packController, packStream, controllerRow, streamRow, idRow, termRow, packControllers, packStreams, packClaims, packCore, packHistory, noWrite, holdBoard, holdDesk, holdCore, holdHistory, hold, represent}
 use Rattle.state.specs.Order.{pastController, pastStream}
 use Rattle.state.specs.Tidy.{isZero, noMessage, noStatus, blankMastership, blankRequest, blankResponse, tidyMastership, tidyRequest, tidyResponse, tidyPlaces, tidyController, tidyStream, blankController, blankStream, blankId, blankTerm, tidyCore, anyWrite, blankWrite, tidyHistory, stateFits}
 use Rattle.bridge.specs.Sized.{SizedMastership, SizedController, SizedStream, Sized}

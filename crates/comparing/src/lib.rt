@@ -30,9 +30,6 @@ pub const OF_SECOND: u32 = 16;
 
 pub const NODES_DIFFER: u32 = 28;
 
-// The most records that a list has.
-const MOST_RECORDS: usize = 32762;
-
 // A verdict or a refusal; and the places, from 1, of two records a and b: p and q in the first list, r and s in the second. 0 where there is none.
 pub struct Finding {
     pub verdict: u32,
@@ -172,8 +169,8 @@ fn compare_good(first: &[u8], one: Trailer, second: &[u8], other: Trailer) -> Fi
 {
     let mut table = [0u8; letters::TABLE_SIZE];
     letters::fill_table(one.nodes, &mut table);
-    let mut letters = [0u8; MOST_RECORDS];
-    let mut places = [0u16; MOST_RECORDS];
+    let mut letters = [0u8; lists::MOST_RECORDS];
+    let mut places = [0u16; lists::MOST_RECORDS];
     let records = other.records;
     walk_letters(
         first,

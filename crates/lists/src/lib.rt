@@ -1,16 +1,22 @@
-// Reading an event list, and writing the entries of the history behind the answers.
+// Reading an event list, and writing and reading the entries of the history behind the answers.
 ghost use mathlib.Core.Path.{_≡_};
 ghost use Prim.Native.Nat.{_+_, _*_, _≤_, _<_};
 ghost use lib.ListN.{length};
 ghost use lib.Seq.{sets};
 ghost use Rattle.lists.specs.EventList.{byteAt, numberAt, refusal, eventAt, recordAt, firstRecord, entryBytes};
 ghost use Rattle.lists.specs.Reads.{eventOf, trailerOf};
+ghost use Rattle.lists.specs.Entries.{entryAt};
+ghost use Rattle.parts.specs.Hold.{holdWrite};
 use parts::Term;
+use parts::Write;
 
 const TRAILER_LENGTH: usize = 12;
 
 // The most bytes that a list has.
 pub const LONGEST: usize = 65536;
+
+// The most records that a list has.
+pub const MOST_RECORDS: usize = 32762;
 
 // ---- the trailer
 
@@ -172,4 +178,18 @@ pub fn write_entry(out: &mut [u8], answers: usize, at: usize, node: u8, term: Te
     ensures { λ _. ⌜ now (out .exit) ≡ sets (now (out .entry)) (answers + 4 * at) (entryBytes (record { node = node; term = term .0 })) ⌝ }
 {
     put_entry(&mut out[answers..], at, node, term);
+}
+
+// Entry number `at`, from the part of a buffer behind the answers.
+pub fn entry_at(part: &[u8], at: usize) -> Write
+    requires { ⌜ 4 * at + 4 ≤ length (now part) ⌝ }
+    ensures { λ r. ⌜ holdWrite r ≡ entryAt (now (part .entry)) at ⌝ }
+{
+    let node = part[4 * at];
+    let low = part[4 * at + 2] as u16;
+    let high = part[4 * at + 3] as u16;
+    Write {
+        node: node,
+        term: Term(low + 256 * high),
+    }
 }

@@ -6,9 +6,9 @@ use lib.Dec.{eqb}
 use lib.ListN.{length, getD}
 use Rattle.rules.specs.State.{Write}
 use Rattle.seqs.specs.Arrays.{table}
+use Rattle.parts.specs.Hold.{packWrite}
 use Rattle.lists.specs.Entries.{entryAt, noWrite}
 use Rattle.runner.specs.Ran.{wholeRun}
-use Rattle.partings.specs.declared.Entry.{Entry}
 use Rattle.partings.specs.declared.Parting.{Parting}
 
 -- ---- histories
@@ -30,15 +30,12 @@ common [] vs = 0
 common (w ∷ ws) [] = 0
 common (w ∷ ws) (v ∷ vs) = oneMore (sameWrite w v) (common ws vs)
 
-abbrev pub entryOf : Write → Entry
-entryOf w = record { node = w .node; term = w .term }
-
 abbrev pub agrees : Parting
-agrees = record { at = 0; one = entryOf noWrite; other = entryOf noWrite }
+agrees = record { at = 0; one = packWrite noWrite; other = packWrite noWrite }
 
 -- The entry that i others stand before.
 abbrev pub differsAt : ℕ → List Write → List Write → Parting
-differsAt i ws vs = record { at = i + 1; one = entryOf (getD ws i noWrite); other = entryOf (getD vs i noWrite) }
+differsAt i ws vs = record { at = i + 1; one = packWrite (getD ws i noWrite); other = packWrite (getD vs i noWrite) }
 
 unfoldable pub difference : List Write → List Write → Parting
 difference ws vs =

@@ -10,12 +10,12 @@ use lib.ListN.{length, getD, List·getD-eq-default}
 use Rattle.rules.specs.State.{Write}
 use Rattle.seqs.specs.Arrays.{table}
 use Rattle.seqs.specs.Tables.{table-get, table-of, table-length}
+use Rattle.parts.specs.declared.Write as P
+use Rattle.parts.specs.Hold.{holdWrite, packWrite}
 use Rattle.lists.specs.EventList.{historyBytes}
 use Rattle.lists.specs.Written.{entry-read}
 use Rattle.lists.specs.Entries.{entryAt, noWrite}
-use Rattle.partings.specs.Difference.{sameWrite, oneMore, common, entryOf, agrees, differsAt, difference, entries}
-use Rattle.partings.specs.declared.Entry.{Entry}
-use Rattle.partings.specs.Reads.{writeOf}
+use Rattle.partings.specs.Difference.{sameWrite, oneMore, common, agrees, differsAt, difference, entries}
 
 -- ---- in common
 
@@ -79,5 +79,5 @@ pub parted : (one : List ℕ) (n : ℕ) (other : List ℕ) (m i : ℕ) → i ≡
 unfolding difference
 parted one n other m i is b test = rw (← is, table-length n (entryAt one), table-length m (entryAt other), test)
 
-pub differs-in : (ws vs : List Write) (i : ℕ) {a b : Entry} → writeOf a ≡ getD ws i noWrite → writeOf b ≡ getD vs i noWrite → record { at = i + 1; one = a; other = b } ≡ differsAt i ws vs
-differs-in ws vs i p q = ap₂ (λ (a b : Write). record { at = i + 1; one = entryOf a; other = entryOf b }) p q
+pub differs-in : (ws vs : List Write) (i : ℕ) {a b : P.Write} → holdWrite a ≡ getD ws i noWrite → holdWrite b ≡ getD vs i noWrite → record { at = i + 1; one = a; other = b } ≡ differsAt i ws vs
+differs-in ws vs i p q = ap₂ (λ (a b : Write). record { at = i + 1; one = packWrite a; other = packWrite b }) p q

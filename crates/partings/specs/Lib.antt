@@ -2,6 +2,5 @@
 -- Definitions: Reads.
 -- Laws: Entries, Runs.
 pub mod Difference
-pub mod Reads
 pub mod Entries
 pub mod Runs

@@ -15,6 +15,7 @@ use Rattle.parts.specs.declared.Response.{Response}
 use Rattle.parts.specs.declared.EventQueue.{EventQueue}
 use Rattle.parts.specs.declared.RequestQueue.{RequestQueue}
 use Rattle.parts.specs.declared.ResponseQueue.{ResponseQueue}
+use Rattle.parts.specs.declared.Write.{Write}
 
 -- ---- masterships
 
@@ -75,6 +76,14 @@ noRequest = record { message = M.Nothing; id = record { 0 = 0 }; term = record {
 
 abbrev pub noResponse : Response
 noResponse = record { message = M.Nothing; status = T.Nothing; id = record { 0 = 0 } }
+
+-- ---- accepted writes
+
+abbrev pub holdWrite : Write → S.Write
+holdWrite e = record { node = e .node; term = e .term .0 }
+
+abbrev pub packWrite : S.Write → Write
+packWrite e = record { node = e .node; term = record { 0 = e .term } }
 
 -- ---- the three queues, each an instance of the one queue
 

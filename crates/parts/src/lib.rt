@@ -1,4 +1,4 @@
-// What the state is made of: terms, election ids, masterships, messages and their queues.
+// What the state is made of: terms, election ids, accepted writes, masterships, messages and their queues.
 ghost use mathlib.Core.Path.{_≡_};
 ghost use Prim.Native.Nat.{_≤_};
 ghost use lib.Dec.{leb};
@@ -89,6 +89,12 @@ pub struct Term(pub u16);
 
 // An election id, as the switch compares them.
 pub struct ElectionId(pub u32);
+
+// An accepted write.
+pub struct Write {
+    pub node: u8,
+    pub term: Term,
+}
 
 // The id rule: place 0 is the master's, place i that of the i-th backup.
 pub fn election_id(count: u8, term: Term, place: u8) -> ElectionId

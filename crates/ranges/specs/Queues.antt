@@ -14,13 +14,12 @@ use Rattle.rules.specs.Range.{all, mastershipFits, requestFits, responseFits, w
 use Rattle.laws.specs.All.{All}
 use Rattle.laws.specs.Tests.{Is, is-map, _&_, as-is, is-le, is-eq, is-all}
 use Rattle.laws.specs.Lists.{all-with}
-use Rattle.parts.specs.Hold.{holdMastership, holdRequest, holdResponse}
+use Rattle.parts.specs.Hold.{holdMastership, holdRequest, holdResponse, holdWrite}
 use Rattle.parts.specs.declared.Mastership.{Mastership}
 use Rattle.parts.specs.declared.Request.{Request}
 use Rattle.parts.specs.declared.Response.{Response}
-use Rattle.state.specs.Hold.{holdWrite}
 use Rattle.state.specs.Tidy.{noMessage, noStatus, tidyMastership, blankMastership, tidyRequest, blankRequest, tidyResponse, blankResponse, tidyPlaces, anyWrite, blankWrite}
-use Rattle.state.specs.declared.Write.{Write}
+use Rattle.parts.specs.declared.Write.{Write}
 use Rattle.bridge.specs.Sized.{SizedMastership}
 use Rattle.bridge.specs.Rows.{Any}
 use Rattle.queues.specs.Tests.{placesTest, eventTest, blankTest, requestTest, statusTest, responseTest}

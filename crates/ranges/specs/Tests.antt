@@ -8,14 +8,15 @@ use Rattle.rules.specs.Limits.{mostNodes, topTerm, topId, historyLength}
 use Rattle.rules.specs.Queues.{before}
 use Rattle.rules.specs.Range.{each, within, writeFits}
 use Rattle.seqs.specs.Arrays.{column}
-use Rattle.state.specs.Hold.{idAt, holdWrite, noWrite}
+use Rattle.parts.specs.Hold.{holdWrite}
+use Rattle.state.specs.Hold.{idAt, noWrite}
 use Rattle.state.specs.Order.{pastController, pastStream}
 use Rattle.state.specs.Tidy.{isZero, blankWrite}
 use Rattle.state.specs.declared.Controller.{Controller}
 use Rattle.state.specs.declared.Stream.{Stream}
 use Rattle.state.specs.declared.Claims.{Claims}
 use Rattle.state.specs.declared.Core.{Core}
-use Rattle.state.specs.declared.Write.{Write}
+use Rattle.parts.specs.declared.Write.{Write}
 use Rattle.state.specs.declared.History.{History}
 use Rattle.state.specs.declared.State.{State}
 use Rattle.queues.specs.Tests.{place, placesTest, serviceTest, learnedTest, eventsTest, requestsTest, responsesTest}

@@ -9,12 +9,12 @@ ghost use Rattle.state.specs.Tidy.{blankWrite};
 ghost use Rattle.ranges.specs.Tests.{controllerTest, blankControllerTest, controllersTest, shutTest, queuesTest, streamTest, streamsTest, idTest, idsTest, writeTest, historyTest};
 use parts::ElectionId;
 use parts::Term;
+use parts::Write;
 use state::Claims;
 use state::Controller;
 use state::Core;
 use state::History;
 use state::Stream;
-use state::Write;
 
 fn controller_fits(count: u8, row: Controller) -> bool
     ensures { λ r. ⌜ r ≡ controllerTest count row ⌝ }

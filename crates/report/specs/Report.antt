@@ -28,7 +28,7 @@ unfoldable pub partingLine : Parting → List ℕ
 partingLine d =
     cond (eqb (d .at) 0)
     (line W.agrees [])
-    (line W.differs (d .at ∷ d .one .node ∷ d .one .term ∷ d .other .node ∷ d .other .term ∷ []))
+    (line W.differs (d .at ∷ d .one .node ∷ d .one .term .0 ∷ d .other .node ∷ d .other .term .0 ∷ []))
 
 -- How many writes each run accepts, and whether they are the same.
 unfoldable pub runsText : List ℕ → List ℕ → List ℕ

@@ -41,7 +41,7 @@ module _ (d : Parting) where
   unfolding partingLine
   says-agrees e = sym (simp (eq-eqb (d .at) 0 e))
 
-  pub says-differs : d .at ≢ 0 → line W.differs (d .at ∷ d .one .node ∷ d .one .term ∷ d .other .node ∷ d .other .term ∷ []) ≡ partingLine d
+  pub says-differs : d .at ≢ 0 → line W.differs (d .at ∷ d .one .node ∷ d .one .term .0 ∷ d .other .node ∷ d .other .term .0 ∷ []) ≡ partingLine d
   unfolding partingLine
   says-differs e = sym (simp (ne-eqb (d .at) 0 e))
 

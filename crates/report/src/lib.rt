@@ -17,12 +17,6 @@ use partings::Parting;
 // Room for the longest text: a line of 96 bytes and two that have 192 together.
 pub const LONGEST_REPORT: usize = 288;
 
-// Room for the answers to 32,762 records, and for a full history.
-const LONGEST_OUT: usize = 36858;
-
-// What a run without writes returns.
-const NO_WRITES: u32 = 256;
-
 // The line of the verdict.
 fn put_verdict(buf: &mut [u8], at: usize, found: Finding) -> usize
     requires { ⌜ at + 96 ≤ length (now buf) ⌝ }
@@ -61,9 +55,9 @@ pub fn put_parting(buf: &mut [u8], at: usize, parting: Parting) -> usize
     let entry = [
         parting.at as u64,
         one.node as u64,
-        one.term as u64,
+        one.term.0 as u64,
         other.node as u64,
-        other.term as u64,
+        other.term.0 as u64,
     ];
     text::put_line(buf, at, b"differs", &entry)
 }
@@ -73,7 +67,7 @@ fn run_good(list: &[u8], trailer: Trailer, out: &mut [u8]) -> u32
     requires { ⌜ Trails (now list) trailer × (trailer .records + historyRoom ≤ length (now out)) ⌝ }
     ensures { λ r. ⌜ Written (now (list .entry)) (trailer .records) (now (out .exit)) r ⌝ }
 {
-    runner::run(list, out) - NO_WRITES
+    runner::run(list, out) - runner::NO_WRITES
 }
 
 // Runs both lists, and says how many writes each accepts and where they first differ. The buffers are for the answers and the histories.
@@ -119,8 +113,8 @@ fn put_comparison(
         (now (buf .exit)) r × (r ≤ longest) ⌝ }
 {
     let next = put_verdict(buf, 0, comparing::compare(first, second));
-    let mut mine = [0u8; LONGEST_OUT];
-    let mut theirs = [0u8; LONGEST_OUT];
+    let mut mine = [0u8; runner::LONGEST_OUT];
+    let mut theirs = [0u8; runner::LONGEST_OUT];
     put_runs(buf, next, first, one, second, other, &mut mine, &mut theirs)
 }
 

@@ -15,13 +15,16 @@ ghost use Rattle.runner.specs.Running.{ifAccepted, Runs};
 use asks::Ask;
 use lists::Trailer;
 use state::Table;
-use turns::Entry;
+use turns::MaybeWrite;
 
 // The bytes behind the answers: room for a full history.
 const HISTORY_ROOM: usize = 4096;
 
+// Room for the answers to 32,762 records, and for a full history.
+pub const LONGEST_OUT: usize = 36858;
+
 // What is returned for a run without writes.
-const NO_WRITES: u32 = 256;
+pub const NO_WRITES: u32 = 256;
 
 // The fresh state, without its history.
 fn fresh_table(nodes: u8) -> Table
@@ -43,7 +46,7 @@ fn fresh_table(nodes: u8) -> Table
 }
 
 // An accepted write joins the history, behind so many answers. Gives the number of writes.
-fn keep(out: &mut [u8], answers: usize, writes: u16, entry: Entry) -> u16
+fn keep(out: &mut [u8], answers: usize, writes: u16, entry: MaybeWrite) -> u16
     requires { ⌜ (answers + historyRoom ≤ length (now out)) × (entry .accepted ≡ true → writes < historyLength) ⌝ }
     ensures { λ r. ⌜ (r ≡ writes + length (ifAccepted (entry .accepted) (record { node = entry .node; term = entry .term .0 })))
         × (now (out .exit) ≡ sets (now (out .entry)) (answers + 4 * writes) (historyBytes (ifAccepted (entry .accepted) (record { node = entry .node; term = entry .term .0 })))) ⌝ }

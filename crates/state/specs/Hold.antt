@@ -9,12 +9,12 @@ use Rattle.seqs.specs.Arrays.{column, table, padded}
 use Rattle.parts.specs.declared.Mastership.{Mastership}
 use Rattle.parts.specs.declared.ElectionId.{ElectionId}
 use Rattle.parts.specs.declared.Term.{Term}
-use Rattle.parts.specs.Hold.{holdMastership, packMastership, holdEvents, packEvents, holdRequests, packRequests, holdResponses, packResponses}
+use Rattle.parts.specs.declared.Write.{Write}
+use Rattle.parts.specs.Hold.{holdMastership, packMastership, holdEvents, packEvents, holdRequests, packRequests, holdResponses, packResponses, holdWrite, packWrite}
 use Rattle.state.specs.declared.Controller.{Controller}
 use Rattle.state.specs.declared.Stream.{Stream}
 use Rattle.state.specs.declared.Claims.{Claims}
 use Rattle.state.specs.declared.Core.{Core}
-use Rattle.state.specs.declared.Write.{Write}
 use Rattle.state.specs.declared.History.{History}
 use Rattle.state.specs.declared.State.{State}
 
@@ -68,9 +68,6 @@ holdCore count c = record {
   says = column saysAt count (c .controllers);
   board = holdBoard count (c .streams) (c .claims);
 }
-
-abbrev pub holdWrite : Write → S.Write
-holdWrite e = record { node = e .node; term = e .term .0 }
 
 unfoldable pub holdHistory : History → List S.Write
 holdHistory h = column holdWrite (h .len) (h .items)
@@ -128,9 +125,6 @@ packCore c = record {
   streams = packStreams (c .board);
   claims = packClaims (c .board);
 }
-
-abbrev pub packWrite : S.Write → Write
-packWrite e = record { node = e .node; term = record { 0 = e .term } }
 
 abbrev pub noWrite : Write
 noWrite = record { node = 0; term = record { 0 = 0 } }

@@ -15,11 +15,11 @@ use Rattle.parts.specs.declared.Request.{Request}
 use Rattle.parts.specs.declared.Response.{Response}
 use Rattle.parts.specs.declared.ElectionId.{ElectionId}
 use Rattle.parts.specs.declared.Term.{Term}
+use Rattle.parts.specs.declared.Write.{Write}
 use Rattle.state.specs.Hold.{hold}
 use Rattle.state.specs.declared.Controller.{Controller}
 use Rattle.state.specs.declared.Stream.{Stream}
 use Rattle.state.specs.declared.Core.{Core}
-use Rattle.state.specs.declared.Write.{Write}
 use Rattle.state.specs.declared.History.{History}
 use Rattle.state.specs.declared.State.{State}
 

@@ -12,6 +12,7 @@ use parts::Mastership;
 use parts::RequestQueue;
 use parts::ResponseQueue;
 use parts::Term;
+use parts::Write;
 
 // A controller node. `says` is the flag "device says master".
 pub struct Controller {
@@ -41,12 +42,6 @@ pub struct Core {
     pub controllers: [Controller; 8],
     pub streams: [Stream; 8],
     pub claims: Claims,
-}
-
-// An accepted write.
-pub struct Write {
-    pub node: u8,
-    pub term: Term,
 }
 
 pub struct History {

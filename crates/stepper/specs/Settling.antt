@@ -9,8 +9,9 @@ use Rattle.rules.specs.State as S
 use Rattle.rules.specs.Queues.{push}
 use Rattle.rules.specs.Step.{fresh}
 use Rattle.seqs.specs.Padded.{padded-push, padded-none}
-use Rattle.state.specs.Hold.{packWrite, noWrite, packHistory, represent}
-use Rattle.state.specs.declared.Write.{Write}
+use Rattle.parts.specs.Hold.{packWrite}
+use Rattle.parts.specs.declared.Write.{Write}
+use Rattle.state.specs.Hold.{noWrite, packHistory, represent}
 use Rattle.state.specs.declared.History.{History}
 use Rattle.state.specs.declared.State.{State}
 use Rattle.state.specs.declared.Moved.{Moved}

@@ -6,11 +6,11 @@ ghost use Rattle.rules.specs.Limits.{historyLength};
 ghost use Rattle.stepper.specs.Public.{stepped, freshened, reported};
 ghost use Rattle.stepper.specs.Settling.{appended, settledAs, blankState};
 use parts::Term;
+use parts::Write;
 use state::Body;
 use state::History;
 use state::Moved;
 use state::State;
-use state::Write;
 
 // A state with the answer that led to it.
 pub struct Stepped {

@@ -1,8 +1,8 @@
 // Steps through the small situations of the rules and prints the answer of each step.
 use libc::STDOUT_FILENO;
 use parts::Term;
+use parts::Write;
 use state::State;
-use state::Write;
 
 // A number behind the words that say what it is.
 fn print_number(words: &[u8], number: u64) {

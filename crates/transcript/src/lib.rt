@@ -1,25 +1,17 @@
 // What running a list prints, as one text. The text is made whole in one buffer, so that a contract states every byte of it: of bytes that are written
 // to a file part by part no contract can speak.
-ghost use mathlib.Core.Path.{_≡_};
 ghost use Prim.Native.Nat.{_+_, _*_, _≤_};
 ghost use lib.ListN.{length};
 ghost use Rattle.rules.specs.Limits.{historyLength};
 ghost use Rattle.lists.specs.Trails.{Trails};
 ghost use Rattle.text.specs.Put.{Put};
 ghost use Rattle.transcript.specs.Transcript.{recordLineAt, transcript};
-ghost use Rattle.lists.specs.Entries.{entryAt};
 ghost use Rattle.transcript.specs.Bytes.{entryLineAt, bytesText, longestText};
 ghost use Rattle.transcript.specs.Lines.{Lined};
 use lists::Trailer;
 
 // Room for the longest text: 32,762 lines of 18 bytes, one of 12 and 1,024 of 10.
 pub const LONGEST_TEXT: usize = 600000;
-
-// Room for the answers to 32,762 records, and for a full history.
-const LONGEST_OUT: usize = 36858;
-
-// What a run without writes returns.
-const NO_WRITES: u32 = 256;
 
 // A line for each record. It has at most 18 bytes: a place of five digits, and three bytes of three digits.
 fn put_records(buf: &mut [u8], list: &[u8], trailer: Trailer, answers: &[u8]) -> usize
@@ -36,14 +28,6 @@ fn put_records(buf: &mut [u8], list: &[u8], trailer: Trailer, answers: &[u8]) ->
     at
 }
 
-// The term of entry number i of the history.
-fn term_at(part: &[u8], i: usize) -> u16
-    requires { ⌜ 4 * i + 4 ≤ length (now part) ⌝ }
-    ensures { λ r. ⌜ r ≡ entryAt (now (part .entry)) i .term ⌝ }
-{
-    part[4 * i + 2] as u16 + 256 * (part[4 * i + 3] as u16)
-}
-
 // A line for each entry of the history. It has at most 10 bytes: a byte of three digits, and a term of five.
 fn put_writes(buf: &mut [u8], at: usize, part: &[u8], writes: usize) -> usize
     requires { ⌜ (4 * writes ≤ length (now part)) × (at + 10 * writes ≤ length (now buf)) ⌝ }
@@ -52,7 +36,8 @@ fn put_writes(buf: &mut [u8], at: usize, part: &[u8], writes: usize) -> usize
     let mut next = at;
     let mut i: usize = 0;
     while i < writes {
-        next = text::put_write_line(buf, next, part[4 * i], term_at(part, i));
+        let entry = lists::entry_at(part, i);
+        next = text::put_write_line(buf, next, entry.node, entry.term.0);
         i += 1;
     }
     next
@@ -75,9 +60,9 @@ pub fn transcript(list: &[u8], buf: &mut [u8; LONGEST_TEXT]) -> usize
 {
     let trailer = lists::read_trailer(list);
     if trailer.code == parts::DONE {
-        let mut out = [0u8; LONGEST_OUT];
+        let mut out = [0u8; runner::LONGEST_OUT];
         let returned = runner::run(list, &mut out);
-        return put_run(buf, list, trailer, &out, returned - NO_WRITES);
+        return put_run(buf, list, trailer, &out, returned - runner::NO_WRITES);
     }
     text::put_refused_line(buf, 0, trailer.code as u32)
 }

@@ -21,7 +21,7 @@ use state::Controller;
 use state::Stream;
 
 // The write of a step, where it accepted one.
-pub struct Entry {
+pub struct MaybeWrite {
     pub accepted: bool,
     pub node: u8,
     pub term: Term,
@@ -32,7 +32,7 @@ pub struct Row {
     pub stream: Stream,
     pub says: bool,
     pub claims: Claims,
-    pub entry: Entry,
+    pub entry: MaybeWrite,
 }
 
 // ---- the answers
@@ -117,7 +117,7 @@ pub fn board_code(ask: Ask, streams: [Stream; 8], claims: Claims) -> u8
 fn quiet(ask: Ask, controller: Controller, claims: Claims, stream: Stream) -> Row
     ensures { λ r. ⌜ r ≡ quiet ask controller claims stream ⌝ }
 {
-    let entry = Entry {
+    let entry = MaybeWrite {
         accepted: false,
         node: ask.node,
         term: Term(0),
@@ -151,7 +151,7 @@ fn written(ask: Ask, controller: Controller, stream: Stream, claims: Claims) -> 
     let term = handled.term;
     let mut held = claims;
     held.last = last;
-    let entry = Entry {
+    let entry = MaybeWrite {
         accepted: handled.accepted,
         node: ask.node,
         term: term,

@@ -22,12 +22,16 @@ node-of s =
 kind-of : (s : tie.Start) → DeskKind (s .args .kind)
 kind-of s = desk-at (askOf (s .args .body) (s .args .kind) (s .args .node)) (s .pre .1) .0
 
+-- the start, once the answer is known
+abbrev start-of : tie.After-desk-code → tie.Start
+start-of coded = coded .before .before .before .before
+
 desk-code-requires : tie.Need-desk-code-requires
 desk-code-requires c κs = let start = c .before .before .before in in-order-controllers (start .args .body) (start .pre .0)
 
 service-after-requires : tie.Need-service-after-requires
 service-after-requires c κs =
-    let start = c .before .before .before .before .before in
+    let start = start-of (c .before) in
     let b = start .args .body in
     let n = start .args .node in
     let k = start .args .kind in
@@ -38,14 +42,16 @@ posts-requires c κs = search needs
 
 post-requires : tie.Need-post-requires
 post-requires c κs =
-    let start = c .before .before .before .before .before .before .before .before in
+    let served = c .before .before in
+    let coded = served .before .before in
+    let start = start-of coded in
     let b = start .args .body in
     let n = start .args .node in
     let k = start .args .kind in
     let a = node-of start in
-    let done = sym (c .before .before .before .before .desk-code .ensures) ∙ c .before .before .before .if1 .taken in (
+    let done = sym (coded .desk-code .ensures) ∙ served .before .if1 .taken in (
       in-order-controllers b (start .pre .0),
-      desk-written b n a k (kind-of start) done (c .before .before .service-after .result) (c .before .before .service-after .ensures),
+      desk-written b n a k (kind-of start) done (served .service-after .result) (served .service-after .ensures),
       desk-room b n a k (kind-of start) done (sym (c .before .posts .ensures) ∙ c .if2 .taken),
     )
 
@@ -57,15 +63,17 @@ plain-requires c κs = search needs
 
 returns : tie.Need-returns
 returns c = λ history.
-    let start = c .before .before .before .before .before .before .before .before .before .before .before in
+    let posted = c .before .before in
+    let served = posted .before .before .before in
+    let coded = served .before .before in
+    let start = start-of coded in
     let b = start .args .body in
     let n = start .args .node in
     let k = start .args .kind in
-    let coded = c .before .before .before .before .before .before .before in
-    let x = c .before .before .before .before .before .service-after in
+    let x = served .service-after in
     leaves-as n history _ _ (c .plain .result) (c .plain .ensures ∙ ap (plain stepDone) (c .before .with-desk .ensures))
-    (desk-posts b n (node-of start) history k (kind-of start) (sym (coded .desk-code .ensures) ∙ c .before .before .before .before .before .before .if1 .taken)
-    (sym (c .before .before .before .before .posts .ensures) ∙ c .before .before .before .if2 .taken) (x .result) (x .ensures) (c .before .before .post .result) (c .before .before .post .ensures))
+    (desk-posts b n (node-of start) history k (kind-of start) (sym (coded .desk-code .ensures) ∙ served .before .if1 .taken)
+    (sym (posted .before .before .posts .ensures) ∙ posted .before .if2 .taken) (x .result) (x .ensures) (posted .post .result) (posted .post .ensures))
 
 with-desk-requires-2 : tie.Need-with-desk-requires-2
 with-desk-requires-2 c κs = search needs
@@ -75,21 +83,24 @@ plain-requires-2 c κs = search needs
 
 returns-2 : tie.Need-returns-2
 returns-2 c = λ history.
-    let start = c .before .before .before .before .before .before .before .before .before .before in
+    let stored = c .before in
+    let served = stored .before .before .before in
+    let coded = served .before .before in
+    let start = start-of coded in
     let b = start .args .body in
     let n = start .args .node in
     let k = start .args .kind in
-    let x = c .before .before .before .before .service-after in
-    leaves-as n history _ _ (c .plain2 .result) (c .plain2 .ensures ∙ ap (plain stepDone) (c .before .with-desk2 .ensures))
-    (desk-quiet b n (node-of start) history k (kind-of start) (sym (c .before .before .before .before .before .before .desk-code .ensures) ∙ c .before .before .before .before .before .if1 .taken)
-    (sym (c .before .before .before .posts .ensures) ∙ c .before .before .if2 .left) (x .result) (x .ensures))
+    let x = served .service-after in
+    leaves-as n history _ _ (c .plain2 .result) (c .plain2 .ensures ∙ ap (plain stepDone) (stored .with-desk2 .ensures))
+    (desk-quiet b n (node-of start) history k (kind-of start) (sym (coded .desk-code .ensures) ∙ served .before .if1 .taken)
+    (sym (stored .before .before .posts .ensures) ∙ stored .before .if2 .left) (x .result) (x .ensures))
 
 plain-requires-3 : tie.Need-plain-requires-3
 plain-requires-3 c κs = search needs
 
 returns-3 : tie.Need-returns-3
 returns-3 c = λ history.
-    let start = c .before .before .before .before .before .before in
+    let start = start-of (c .before .before) in
     let b = start .args .body in
     let n = start .args .node in
     let k = start .args .kind in

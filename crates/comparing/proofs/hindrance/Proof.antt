@@ -10,6 +10,20 @@ use native.Mathlib.Omega.{arith}
 use Rattle.comparing.proofs.hindrance.Statement.{statement}
 use Rattle.comparing.proofs.hindrance.Tie as tie
 
+-- ---- stations: the start; record a looked for; the blocking record, and that one looked for
+
+abbrev start-of : tie.After-find-left → tie.Start
+start-of found = found .before .before .before .before .before
+
+abbrev found-of : tie.After-shared-slice-known4 → tie.After-find-left
+found-of c = c .before .before .before
+
+abbrev met-of : tie.After-find-record → tie.After-shared-slice-known4
+met-of behind = behind .before .before
+
+abbrev behind-of : tie.After-shared-slice-known5 → tie.After-find-record
+behind-of c = c .before .before .before
+
 below : {a b : ℕ} → a ≤ b → a ≢ b → a < b
 below h d = omega arith
 
@@ -20,11 +34,11 @@ small : (c : tie.Start) (q : ℕ) → q < c .args .other .records → getD (c .a
 small c q h = let k = c .pre .2 .inside q h in let t = c .pre .1 in let u = t .good in omega arith
 
 -- record a is found
-left : (c : tie.After-find-left) → c .find-left .result ≢ c .before .before .before .before .before .args .other .records → c .find-left .result < length (c .before .before .before .before .before .args .places .now)
-left c d = let h = c .find-left .ensures .high in let z = c .before .before .before .before .before .pre .2 .size in omega arith
+left : (c : tie.After-find-left) → c .find-left .result ≢ start-of c .args .other .records → c .find-left .result < length (start-of c .args .places .now)
+left c d = let h = c .find-left .ensures .high in let z = start-of c .pre .2 .size in omega arith
 
-found-small : (c : tie.After-find-left) → c .find-left .result ≢ c .before .before .before .before .before .args .other .records → getD (c .before .before .before .before .before .args .places .now) (c .find-left .result) 0 < 32768
-found-small c d = small (c .before .before .before .before .before) _ (let h = left c d in let z = c .before .before .before .before .before .pre .2 .size in omega arith)
+found-small : (c : tie.After-find-left) → c .find-left .result ≢ start-of c .args .other .records → getD (start-of c .args .places .now) (c .find-left .result) 0 < 32768
+found-small c d = small (start-of c) _ (let h = left c d in let z = start-of c .pre .2 .size in omega arith)
 
 read-record-requires : tie.Need-read-record-requires
 read-record-requires c κs = search needs
@@ -38,7 +52,7 @@ only-first-requires c κs = search needs
 returns : tie.Need-returns
 returns c =
     let found = c .before .before .before in
-    let start = found .before .before .before .before .before in
+    let start = start-of found in
     let x = start .args in
     let z = start .pre .2 .size in
     c .only-first .ensures ∙ no-second (x .one .nodes) (recordAt (x .first .now)) (recordAt (x .second .now)) (x .one .records) (x .places .now) (x .a) (getD (x .places .now) (x .b) 0) (start .pre .3) (row start) (found .before .read-record .ensures) (found .find-left .ensures) (omega arith)
@@ -50,10 +64,10 @@ shared-slice-read-place : tie.Need-shared-slice-read-place
 shared-slice-read-place c = search needs
 
 cast-place : tie.Need-cast-place
-cast-place c = let h = small (c .before .before .before .before .before .before .before .before) _ (c .before .before .before .before .before .before .before .before .pre .5) in omega arith
+cast-place c = let h = small (start-of (found-of c)) _ (start-of (found-of c) .pre .5) in omega arith
 
 read-record-requires-2 : tie.Need-read-record-requires-2
-read-record-requires-2 c κs = let h = c .before .before .before .before .before .before .before .before .pre .2 .inside _ (c .before .before .before .before .before .before .before .before .pre .5) in search needs
+read-record-requires-2 c κs = let h = start-of (found-of c) .pre .2 .inside _ (start-of (found-of c) .pre .5) in search needs
 
 add-find-record : tie.Need-add-find-record
 add-find-record c = search needs
@@ -62,13 +76,13 @@ find-record-requires : tie.Need-find-record-requires
 find-record-requires c κs = search needs
 
 only-second-requires : tie.Need-only-second-requires
-only-second-requires c κs = small (c .before .before .before .before .before .before .before .before .before .before .before .before) _ (c .before .before .before .before .before .before .before .before .before .before .before .before .pre .5)
+only-second-requires c κs = small (start-of (found-of (met-of (c .before .before)))) _ (start-of (found-of (met-of (c .before .before))) .pre .5)
 
 returns-2 : tie.Need-returns-2
 returns-2 c =
     let behind = c .before .before .before in
-    let found = behind .before .before .before .before .before in
-    let start = found .before .before .before .before .before in
+    let found = found-of (met-of behind) in
+    let start = start-of found in
     let x = start .args in
     c .only-second .ensures
     ∙ no-first (x .one .nodes) (recordAt (x .first .now)) (recordAt (x .second .now)) (x .one .records) (x .places .now) (x .a) (getD (x .places .now) (x .b) 0) (start .pre .3) (row start) (found .before .read-record .ensures) (found .find-left .ensures) (left found (behind .before .before .before .if1 .left))
@@ -93,22 +107,22 @@ shared-slice-read-t16 : tie.Need-shared-slice-read-t16
 shared-slice-read-t16 c = search needs
 
 cast-t22 : tie.Need-cast-t22
-cast-t22 c = let h = found-small (c .before .before .before .before .before .before .before .before) (c .before .before .before .before .before .before .if1 .left) in omega arith
+cast-t22 c = let h = found-small (found-of (met-of (behind-of c))) (met-of (behind-of c) .before .if1 .left) in omega arith
 
 add-t23 : tie.Need-add-t23
-add-t23 c = let h = found-small (c .before .before .before .before .before .before .before .before) (c .before .before .before .before .before .before .if1 .left) in omega arith
+add-t23 c = let h = found-small (found-of (met-of (behind-of c))) (met-of (behind-of c) .before .if1 .left) in omega arith
 
 cast-t24 : tie.Need-cast-t24
-cast-t24 c = let h = small (c .before .before .before .before .before .before .before .before .before .before .before .before .before) _ (c .before .before .before .before .before .before .before .before .before .before .before .before .before .pre .5) in omega arith
+cast-t24 c = let h = small (start-of (found-of (met-of (behind-of c)))) _ (start-of (found-of (met-of (behind-of c))) .pre .5) in omega arith
 
 add-t25 : tie.Need-add-t25
-add-t25 c = let h = small (c .before .before .before .before .before .before .before .before .before .before .before .before .before) _ (c .before .before .before .before .before .before .before .before .before .before .before .before .before .pre .5) in omega arith
+add-t25 c = let h = small (start-of (found-of (met-of (behind-of c)))) _ (start-of (found-of (met-of (behind-of c))) .pre .5) in omega arith
 
 returns-3 : tie.Need-returns-3
 returns-3 c =
     let behind = c .before .before .before in
-    let found = behind .before .before .before .before .before in
-    let start = found .before .before .before .before .before in
+    let found = found-of (met-of behind) in
+    let start = start-of found in
     let x = start .args in
     crossed (x .one .nodes) (recordAt (x .first .now)) (recordAt (x .second .now)) (x .one .records) (x .places .now) (x .a) (getD (x .places .now) (x .b) 0) (start .pre .3) (row start) (found .before .read-record .ensures) (found .find-left .ensures) (left found (behind .before .before .before .if1 .left))
     (behind .before .read-record2 .ensures) (behind .find-record .ensures) (below (behind .find-record .ensures .high) (c .before .if2 .left))

@@ -5,6 +5,17 @@ use borrow.Author.Needs.{needs}
 use Rattle.comparing.proofs.walk_letters.Statement.{statement}
 use Rattle.comparing.proofs.walk_letters.Tie as tie
 
+-- ---- stations: the start; the letters put down; the places put down
+
+abbrev start-of : tie.After-fill-letters → tie.Start
+start-of letters = letters .before .before .before .before .before .before .before
+
+abbrev letters-of : tie.After-fill-places → tie.After-fill-letters
+letters-of places = places .before .before .before .before
+
+abbrev places-of : tie.After-walk-arg2 → tie.After-fill-places
+places-of c = c .before .before .before .before
+
 fill-letters-requires : tie.Need-fill-letters-requires
 fill-letters-requires c κs = search needs
 
@@ -13,8 +24,10 @@ fill-places-requires c κs = search needs
 
 walk-requires : tie.Need-walk-requires
 walk-requires c κs =
-    let start = c .before .before .before .before .before .before .before .before .before .before .before .before .before .before .before in
-    (start .pre .0, start .pre .1, c .before .before .before .before .before .before .before .before .fill-letters .ensures, c .before .before .before .before .fill-places .ensures ∙ ap (from 0) (start .pre .3), start .pre .4)
+    let places = places-of c in
+    let letters = letters-of places in
+    let start = start-of letters in
+    (start .pre .0, start .pre .1, letters .fill-letters .ensures, places .fill-places .ensures ∙ ap (from 0) (start .pre .3), start .pre .4)
 
 same-length : tie.Need-same-length
 same-length c = search needs

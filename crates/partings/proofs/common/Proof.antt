@@ -19,9 +19,20 @@ abbrev μ-loop : tie.MeasureT-loop
 loop-holds : tie.Need-loop-holds Inv-loop μ-loop
 loop-holds c = shared-none _ _ _ _
 
+-- ---- stations: the start; a turn of the loop; an entry in both
+
+abbrev start-of : tie.At-loop Inv-loop μ-loop → tie.Start Inv-loop μ-loop
+start-of turn = turn .before .before .before
+
+abbrev both-of : tie.After-same Inv-loop μ-loop → tie.Else1 Inv-loop μ-loop
+both-of c = c .before .before .before
+
+abbrev turn-of : tie.After-same Inv-loop μ-loop → tie.At-loop Inv-loop μ-loop
+turn-of c = both-of c .before .before
+
 -- whether the two entries at the loop's place are the same
-alike : (c : tie.After-same Inv-loop μ-loop) → let x = c .before .before .before .before .before .before .before .before .args in
-    sameWrite (entryAt (x .one .now) (c .before .before .before .before .before .loop .i)) (entryAt (x .other .now) (c .before .before .before .before .before .loop .i)) ≡ c .same .result
+alike : (c : tie.After-same Inv-loop μ-loop) → let turn = turn-of c in let x = start-of turn .args in
+    sameWrite (entryAt (x .one .now) (turn .loop .i)) (entryAt (x .other .now) (turn .loop .i)) ≡ c .same .result
 alike c = ap₂ sameWrite (sym (c .before .before .entry-at .ensures)) (sym (c .before .entry-at2 .ensures)) ∙ sym (c .same .ensures)
 
 returns : tie.Need-returns Inv-loop μ-loop
@@ -37,7 +48,7 @@ same-requires : tie.Need-same-requires Inv-loop μ-loop
 same-requires c κs = search needs
 
 returns-2 : tie.Need-returns-2 Inv-loop μ-loop
-returns-2 c = shared-all _ _ _ _ _ (c .before .before .before .before .before .before .loop .inv) (λ h k. alike (c .before) ∙ not-true _ (c .if2 .taken))
+returns-2 c = shared-all _ _ _ _ _ (turn-of (c .before) .loop .inv) (λ h k. alike (c .before) ∙ not-true _ (c .if2 .taken))
 
 add-i : tie.Need-add-i Inv-loop μ-loop
 add-i c = search needs
@@ -46,7 +57,7 @@ loop-less : tie.Need-loop-less Inv-loop μ-loop
 loop-less c = search needs
 
 loop-again : tie.Need-loop-again Inv-loop μ-loop
-loop-again c = shared-more (c .before .before .before .before .before .before .loop .inv) (c .before .before .before .before .before .loop-test .taken) (c .before .before .before .before .if1 .left) (alike (c .before) ∙ not-false _ (c .if2 .left))
+loop-again c = shared-more (turn-of (c .before) .loop .inv) (both-of (c .before) .before .loop-test .taken) (both-of (c .before) .if1 .left) (alike (c .before) ∙ not-false _ (c .if2 .left))
 
 returns-3 : tie.Need-returns-3 Inv-loop μ-loop
 returns-3 c = shared-all _ _ _ _ _ (c .before .loop .inv) (λ h k. absurd (let z = c .loop-test .left in omega arith))

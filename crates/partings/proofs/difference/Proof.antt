@@ -12,11 +12,19 @@ use borrow.Author.Needs.{needs}
 use Rattle.partings.proofs.difference.Statement.{statement}
 use Rattle.partings.proofs.difference.Tie as tie
 
+-- ---- stations: the start; the entries in common counted
+
+abbrev start-of : tie.After-common → tie.Start
+start-of common = common .before .before .before
+
+abbrev common-of : tie.After-entry-of2 → tie.After-common
+common-of c = c .before .before .before
+
 common-requires : tie.Need-common-requires
 common-requires c κs = search needs
 
 returns : tie.Need-returns
-returns c = let x = c .before .before .before .before .args in sym (parted (x .one .now) (x .n) (x .other .now) (x .m) _ (c .before .common .ensures) true (c .if1 .taken))
+returns c = let x = start-of (c .before) .args in sym (parted (x .one .now) (x .n) (x .other .now) (x .m) _ (c .before .common .ensures) true (c .if1 .taken))
 
 entry-of-requires : tie.Need-entry-of-requires
 entry-of-requires c κs = search needs
@@ -25,23 +33,23 @@ entry-of-requires-2 : tie.Need-entry-of-requires-2
 entry-of-requires-2 c κs = search needs
 
 -- no more than a full history
-few : (c : tie.After-entry-of2) → c .before .before .before .common .result ≤ historyLength
-few c = let x = c .before .before .before .before .before .before .args in
+few : (c : tie.After-entry-of2) → common-of c .common .result ≤ historyLength
+few c = let x = start-of (common-of c) .args in
     let low = common-le (entries (x .one .now) (x .n)) (entries (x .other .now) (x .m)) in
     let size = table-length (x .n) (entryAt (x .one .now)) in
-    let is = c .before .before .before .common .ensures in
+    let is = common-of c .common .ensures in
     omega arith
 
-cast-t12 : tie.Need-cast-t12
-cast-t12 c = let n = few c in omega arith
+cast-t13 : tie.Need-cast-t13
+cast-t13 c = let n = few c in omega arith
 
-add-t13 : tie.Need-add-t13
-add-t13 c = let n = few c in omega arith
+add-t14 : tie.Need-add-t14
+add-t14 c = let n = few c in omega arith
 
 returns-2 : tie.Need-returns-2
-returns-2 c = let x = c .before .before .before .before .before .before .args in
+returns-2 c = let x = start-of (common-of c) .args in
     differs-in (entries (x .one .now) (x .n)) (entries (x .other .now) (x .m)) _ (c .before .entry-of .ensures) (c .entry-of2 .ensures)
-    ∙ sym (parted (x .one .now) (x .n) (x .other .now) (x .m) _ (c .before .before .before .common .ensures) false (c .before .before .if1 .left))
+    ∙ sym (parted (x .one .now) (x .n) (x .other .now) (x .m) _ (common-of c .common .ensures) false (c .before .before .if1 .left))
 
 pub difference-spec : {M : Type 1} → statement M
 difference-spec =
@@ -51,6 +59,6 @@ difference-spec =
     returns
     entry-of-requires
     entry-of-requires-2
-    cast-t12
-    add-t13
+    cast-t13
+    add-t14
     returns-2)

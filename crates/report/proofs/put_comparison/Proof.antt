@@ -9,6 +9,20 @@ use borrow.Author.Needs.{needs}
 use Rattle.report.proofs.put_comparison.Statement.{statement}
 use Rattle.report.proofs.put_comparison.Tie as tie
 
+-- ---- stations: the start; the verdict found; its line put; both lists run
+
+abbrev start-of : tie.After-compare → tie.Start
+start-of found = found .before .before .before .before .before
+
+abbrev found-of : tie.After-put-verdict → tie.After-compare
+found-of line = line .before
+
+abbrev line-of : tie.After-put-runs → tie.After-put-verdict
+line-of runs = runs .before .before .before .before .before .before
+
+abbrev runs-of : tie.After-theirs2 → tie.After-put-runs
+runs-of c = c .before .before .before .before
+
 compare-requires : tie.Need-compare-requires
 compare-requires c κs = search needs
 
@@ -29,11 +43,11 @@ same-length c = search needs
 
 returns : tie.Need-returns
 returns c =
-    let start = c .before .before .before .before .before .before .before .before .before .before .before .before .before .before .before .before in
+    let start = start-of (found-of (line-of (runs-of c))) in
     let x = start .args in
-    let found = c .before .before .before .before .before .before .before .before .before .before .before .compare .ensures ∙ both-good (x .first .now) (x .second .now) (start .pre .0 .none) (start .pre .1 .none) (start .pre .2) in
-    let verdict = c .before .before .before .before .before .before .before .before .before .before .put-verdict .ensures in
-    let runs = c .before .before .before .before .put-runs .ensures in
+    let found = found-of (line-of (runs-of c)) .compare .ensures ∙ both-good (x .first .now) (x .second .now) (start .pre .0 .none) (start .pre .1 .none) (start .pre .2) in
+    let verdict = line-of (runs-of c) .put-verdict .ensures in
+    let runs = runs-of c .put-runs .ensures in
     let last = runs .1 in
     let next = verdict .1 in
     (put-then (put-as (ap verdictLine found) (verdict .0)) (runs .0), omega arith)

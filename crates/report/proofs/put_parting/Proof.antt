@@ -6,6 +6,14 @@ use borrow.Author.Needs.{needs}
 use Rattle.report.proofs.put_parting.Statement.{statement}
 use Rattle.report.proofs.put_parting.Tie as tie
 
+-- ---- stations: the histories agree; they differ
+
+abbrev agrees-of : tie.After-put-word → tie.Then1
+agrees-of c = c .before .before .before
+
+abbrev differs-of : tie.After-put-line → tie.Else1
+differs-of c = c .before .before .before .before .before .before .before .before .before .before .before
+
 slice-aggregate-put-word : tie.Need-slice-aggregate-put-word
 slice-aggregate-put-word c = search needs
 
@@ -17,7 +25,7 @@ same-length c = search needs
 
 returns : tie.Need-returns
 unfolding line spaced
-returns c = (put-as (says-agrees (c .before .before .before .before .before .before .before .before .args .parting) (c .before .before .before .before .before .if1 .taken)) (c .before .before .put-word .ensures), omega arith)
+returns c = (put-as (says-agrees (agrees-of (c .before .before) .before .before .before .args .parting) (agrees-of (c .before .before) .if1 .taken)) (c .before .before .put-word .ensures), omega arith)
 
 cast-t14 : tie.Need-cast-t14
 cast-t14 c = search needs
@@ -47,7 +55,7 @@ same-length-2 : tie.Need-same-length-2
 same-length-2 c = search needs
 
 returns-2 : tie.Need-returns-2
-returns-2 c = (put-as (says-differs (c .before .before .before .before .before .before .before .before .before .before .before .before .before .before .before .before .args .parting) (c .before .before .before .before .before .before .before .before .before .before .before .before .before .if1 .left)) (c .before .before .put-line .ensures .0), omega arith)
+returns-2 c = (put-as (says-differs (differs-of (c .before .before) .before .before .before .args .parting) (differs-of (c .before .before) .if1 .left)) (c .before .before .put-line .ensures .0), omega arith)
 
 pub put-parting-spec : {M : Type 1} → statement M
 put-parting-spec =

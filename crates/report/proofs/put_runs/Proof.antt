@@ -9,6 +9,23 @@ use borrow.Author.Needs.{needs}
 use Rattle.report.proofs.put_runs.Statement.{statement}
 use Rattle.report.proofs.put_runs.Tie as tie
 
+-- ---- stations: the start; each list run; the line of the writes put; the histories compared
+
+abbrev start-of : tie.After-run-good → tie.Start
+start-of first = first .before .before .before .before .before .before .before
+
+abbrev first-of : tie.After-run-good2 → tie.After-run-good
+first-of second = second .before .before .before .before
+
+abbrev second-of : tie.After-put-line → tie.After-run-good2
+second-of line = line .before .before .before .before .before .before
+
+abbrev line-of : tie.After-difference → tie.After-put-line
+line-of compared = compared .before .before .before .before .before .before .before
+
+abbrev compared-of : tie.After-put-parting → tie.After-difference
+compared-of c = c .before .before
+
 run-good-requires : tie.Need-run-good-requires
 run-good-requires c κs = search needs
 
@@ -59,9 +76,9 @@ difference-requires c κs = search needs
 
 put-parting-requires : tie.Need-put-parting-requires
 put-parting-requires c κs =
-    let line = c .before .before .before .before .before .before .before .before .put-line .ensures in
+    let line = line-of (c .before) .put-line .ensures in
     let same = put-length (line .0) in
-    let start = c .before .before .before .before .before .before .before .before .before .before .before .before .before .before .before .before .before .before .before .before .before .before .before .before .before .pre .4 in
+    let start = start-of (first-of (second-of (line-of (c .before)))) .pre .4 in
     omega arith
 
 same-length : tie.Need-same-length
@@ -75,16 +92,16 @@ same-length-3 c = search needs
 
 returns : tie.Need-returns
 returns c =
-    let x = c .before .before .before .before .before .before .before .before .before .before .before .before .before .before .before .before .before .before .before .before .before .before .before .before .before .before .before .before .args in
-    let run = c .before .before .before .before .before .before .before .before .before .before .before .before .before .before .before .before .before .before .before .before .before .run-good in
-    let run2 = c .before .before .before .before .before .before .before .before .before .before .before .before .before .before .before .before .before .run-good2 in
+    let x = start-of (first-of (second-of (line-of (compared-of (c .before .before))))) .args in
+    let run = first-of (second-of (line-of (compared-of (c .before .before)))) .run-good in
+    let run2 = second-of (line-of (compared-of (c .before .before))) .run-good2 in
     let mine = run .last .1 .1 .0 in
     let theirs = run2 .last .1 .1 .0 in
     let put = put-both (run .ensures) (run2 .ensures)
     (take-all (length mine - x .one .records) (drop (x .one .records) mine) (simp length-drop (omega arith)))
     (take-all (length theirs - x .other .records) (drop (x .other .records) theirs) (simp length-drop (omega arith)))
-    (c .before .before .before .before .difference .ensures) (c .before .before .before .before .before .before .before .before .before .before .before .put-line .ensures .0) (c .before .before .put-parting .ensures .0) in
-    let line = c .before .before .before .before .before .before .before .before .before .before .before .put-line .ensures .1 in
+    (compared-of (c .before .before) .difference .ensures) (line-of (compared-of (c .before .before)) .put-line .ensures .0) (c .before .before .put-parting .ensures .0) in
+    let line = line-of (compared-of (c .before .before)) .put-line .ensures .1 in
     let last = c .before .before .put-parting .ensures .1 in
     (put, omega arith)
 

@@ -30,17 +30,25 @@ place c =
     let upto = c .pre .head .at .upto in
     omega arith
 
+-- ---- stations: the start; the claim stored; whether the switch's master changes
+
+abbrev start-of : tie.After-with-claim → tie.Start
+start-of claim = claim .before .before .before .before .before
+
+abbrev claim-of : tie.After-master-changes → tie.After-with-claim
+claim-of change = change .before .before .before .before
+
 -- the claims with the id and the term of the request
-claimed : (c : tie.After-with-claim) → c .with-claim .result ≡ claimsThen (c .before .before .before .before .before .pre .head)
+claimed : (c : tie.After-with-claim) → c .with-claim .result ≡ claimsThen (start-of c .pre .head)
 claimed c =
-    let start = c .before .before .before .before .before in
+    let start = start-of c in
     c .with-claim .ensures ∙ ap (λ (r : Request). withClaim (start .args .node) (r .id) (r .term) (start .args .claims)) (c .before .before .before .head .ensures ∙ head-is (start .pre .head))
 
 -- whether the switch's master changes
-shifts-so : (c : tie.After-master-changes) (b : Bool) → c .master-changes .result ≡ b → shifts (c .before .before .before .before .before .before .before .before .before .pre .head) ≡ b
+shifts-so : (c : tie.After-master-changes) (b : Bool) → c .master-changes .result ≡ b → shifts (start-of (claim-of c) .pre .head) ≡ b
 shifts-so c b e =
-    let start = c .before .before .before .before .before .before .before .before .before in
-    ap (λ (k : Claims). changes (column idAt (start .args .count) (start .args .claims .ids)) (column idAt (start .args .count) (k .ids))) (sym (claimed (c .before .before .before .before)))
+    let start = start-of (claim-of c) in
+    ap (λ (k : Claims). changes (column idAt (start .args .count) (start .args .claims .ids)) (column idAt (start .args .count) (k .ids))) (sym (claimed (claim-of c)))
     ∙ sym (c .master-changes .ensures) ∙ e
 
 sub-at : tie.Need-sub-at
@@ -78,27 +86,29 @@ tell-all-requires c κs = search needs
 
 returns : tie.Need-returns
 returns c =
-    let start = c .before .before .before .before .before .before .before .before .before .before .before in
+    let claim = claim-of (c .before .before) in
+    let start = start-of claim in
     let count = start .args .count in
-    ap {B = Board} (λ (l : List Stream). record { streams = l; claims = c .before .before .before .before .before .before .with-claim .result }) (c .tell-all .ensures)
-    ∙ ap₂ {C = Board} (λ (k : Claims) (r : Stream). let next = set (start .args .t3) (start .args .node - 1) r in record { streams = table mostNodes (tellRow (column openAt count next) (column idAt count (k .ids)) next); claims = k }) (claimed (c .before .before .before .before .before .before)) (c .before .before .before .without-head .ensures)
+    ap {B = Board} (λ (l : List Stream). record { streams = l; claims = claim .with-claim .result }) (c .tell-all .ensures)
+    ∙ ap₂ {C = Board} (λ (k : Claims) (r : Stream). let next = set (start .args .t3) (start .args .node - 1) r in record { streams = table mostNodes (tellRow (column openAt count next) (column idAt count (k .ids)) next); claims = k }) (claimed claim) (c .before .before .before .without-head .ensures)
     ∙ updated-all (start .pre .head) (shifts-so (c .before .before) _ (c .before .if1 .taken)) (start .pre .roomy)
 
 tell-one-requires : tie.Need-tell-one-requires
 tell-one-requires c κs = search needs
 
 mul-next-2 : tie.Need-mul-next-2
-mul-next-2 c = omega (arith, place (c .before .before .before .before .before .before .before .before .before .before .before))
+mul-next-2 c = omega (arith, place (start-of (claim-of (c .before .before))))
 
 array-set-from-next-2 : tie.Need-array-set-from-next-2
-array-set-from-next-2 c = omega (arith, place (c .before .before .before .before .before .before .before .before .before .before .before))
+array-set-from-next-2 c = omega (arith, place (start-of (claim-of (c .before .before))))
 
 returns-2 : tie.Need-returns-2
 returns-2 c =
-    let start = c .before .before .before .before .before .before .before .before .before .before .before in
+    let claim = claim-of (c .before .before) in
+    let start = start-of claim in
     ap₂ {C = Board} (λ (r : Stream) (k : Claims). record { streams = set (start .args .t3) (start .args .node - 1) r; claims = k })
-    (c .tell-one .ensures ∙ ap₂ (λ (l : List ℕ) (r : Stream). responded (packResponse (news l (start .args .node))) r) (ap (λ (k : Claims). column idAt (start .args .count) (k .ids)) (claimed (c .before .before .before .before .before .before)) ∙ ids-then (start .pre .head)) (c .before .before .before .without-head .ensures))
-    (claimed (c .before .before .before .before .before .before))
+    (c .tell-one .ensures ∙ ap₂ (λ (l : List ℕ) (r : Stream). responded (packResponse (news l (start .args .node))) r) (ap (λ (k : Claims). column idAt (start .args .count) (k .ids)) (claimed claim) ∙ ids-then (start .pre .head)) (c .before .before .before .without-head .ensures))
+    (claimed claim)
     ∙ updated-one (start .pre .head) (shifts-so (c .before .before) _ (c .before .if1 .left)) (start .pre .roomy)
 
 pub updated-spec : {M : Type 1} → statement M

@@ -18,6 +18,17 @@ use Rattle.transcript.specs.Lines.{Lined}
 use Rattle.transcript.proofs.put_run.Statement.{statement}
 use Rattle.transcript.proofs.put_run.Tie as tie
 
+-- ---- stations: the start; the lines of the records put; the line of the number of writes put
+
+abbrev start-of : tie.After-put-records → tie.Start
+start-of records = records .before .before .before .before .before
+
+abbrev records-of : tie.After-put-writes-line → tie.After-put-records
+records-of line = line .before .before .before .before
+
+abbrev line-of : tie.After-put-writes-arg2 → tie.After-put-writes-line
+line-of c = c .before .before .before .before
+
 -- the three parts, one behind the other
 whole : (list out : List ℕ) (writes : ℕ) {part l m k j : List ℕ} {total a b r : ℕ} → total ≡ recordCount list → part ≡ drop total out → total ≤ 32762 → writes ≤ historyLength
     → Lined (recordLineAt list out) 18 l 0 total m a → Put m a (writesLine writes) k b → Lined (entryLineAt part) 10 k b writes j r
@@ -33,7 +44,7 @@ put-records-requires c κs = search needs
 put-writes-line-requires : tie.Need-put-writes-line-requires
 put-writes-line-requires c κs =
     let records = c .before .before .before in
-    let writes = records .before .before .before .before .before .args .writes in
+    let writes = start-of records .args .writes in
     let same = put-length (records .put-records .ensures .put) in
     let short = writes-line-width writes (omega arith) in
     record { enough = omega arith }
@@ -49,9 +60,9 @@ part-put-writes-end c = search needs
 
 put-writes-requires : tie.Need-put-writes-requires
 put-writes-requires c κs =
-    let line = c .before .before .before .before in
-    let records = line .before .before .before .before in
-    let start = records .before .before .before .before .before in
+    let line = line-of c in
+    let records = records-of line in
+    let start = start-of records in
     let same = put-length (put-then (records .put-records .ensures .put) (line .put-writes-line .ensures)) in
     let short = writes-line-width (start .args .writes) (omega arith) in
     (simp (length-take, length-drop) (omega arith), omega arith)
@@ -61,9 +72,9 @@ same-length c = search needs
 
 returns : tie.Need-returns
 returns c =
-    let line = c .before .before .before .before .before .before .before in
-    let records = line .before .before .before .before in
-    let start = records .before .before .before .before .before in
+    let line = line-of (c .before .before .before) in
+    let records = records-of line in
+    let start = start-of records in
     let total = start .args .trailer .records in
     let out = start .args .out .now in
     whole (start .args .list .now) out (start .args .writes) (start .pre .0 .records) (take-all (length out - total) (drop total out) (simp length-drop (omega arith))) (omega arith) (omega arith)

@@ -1,12 +1,13 @@
 -- `put_writes` meets its contract. The loop's invariant: the lines of the entries passed are put. Assumes nothing.
 use mathlib.Core.Path.{_≡_, ap}
-use Prim.Native.Nat.{ℕ, _*_, _-_, _≤_}
+use Prim.Native.Nat.{_-_, _≤_}
 use native.Mathlib.Omega.{arith}
 use borrow.Author.Needs.{needs}
-use lib.ListN.{length, getD}
+use lib.ListN.{length}
 use Rattle.text.specs.Lines.{writeLine}
 use Rattle.text.specs.Puts.{put-length}
 use Rattle.text.specs.Widths.{write-line-width}
+use Rattle.transcript.specs.Transcript.{lineOf}
 use Rattle.transcript.specs.Bytes.{entryLineAt}
 use Rattle.transcript.specs.Lines.{Lined, lined-none, lined-more, lined-room}
 use Rattle.transcript.proofs.put_writes.Statement.{statement}
@@ -21,21 +22,16 @@ abbrev μ-loop : tie.MeasureT-loop
 loop-holds : tie.Need-loop-holds Inv-loop μ-loop
 loop-holds c = (omega arith, lined-none _ _ _ _)
 
-mul-put-write-line : tie.Need-mul-put-write-line Inv-loop μ-loop
-mul-put-write-line c = search needs
+entry-at-requires : tie.Need-entry-at-requires Inv-loop μ-loop
+entry-at-requires c κs = search needs
 
-shared-slice-read-put-write-line : tie.Need-shared-slice-read-put-write-line Inv-loop μ-loop
-shared-slice-read-put-write-line c = search needs
-
-term-at-requires : tie.Need-term-at-requires Inv-loop μ-loop
-term-at-requires c κs = search needs
-
-short : (c : tie.After-term-at Inv-loop μ-loop) → let at-loop = c .before .before .before .before in
-    length (writeLine (getD (at-loop .before .before .before .args .part .now) (4 * at-loop .loop .i) 0) (c .term-at .result)) ≤ 10
-short c = let at-loop = c .before .before .before .before in write-line-width _ _ (omega (arith, c .before .shared-slice-known2 .given (4 * at-loop .loop .i))) (omega arith)
+short : (c : tie.After-entry-at Inv-loop μ-loop) → let entry = c .entry-at .result in length (writeLine (entry .node) (entry .term .0)) ≤ 10
+short c = write-line-width _ _ (omega arith) (omega arith)
 
 put-write-line-requires : tie.Need-put-write-line-requires Inv-loop μ-loop
-put-write-line-requires c κs = let at-loop = c .before .before .before .before in lined-room (at-loop .loop .inv .1) (short c) (at-loop .before .before .before .args .writes) (omega arith) (omega arith)
+put-write-line-requires c κs =
+    let at-loop = c .before .before .before in
+    lined-room (at-loop .loop .inv .1) (short (c .before)) (at-loop .before .before .before .args .writes) (omega arith) (omega arith)
 
 add-i : tie.Need-add-i Inv-loop μ-loop
 add-i c = search needs
@@ -45,10 +41,9 @@ loop-less c = search needs
 
 loop-again : tie.Need-loop-again Inv-loop μ-loop
 loop-again c =
-    let read = c .before .before .before in
-    let at-loop = read .before .before .before .before in
-    let same = ap (λ (term : ℕ). writeLine (getD (at-loop .before .before .before .args .part .now) (4 * at-loop .loop .i) 0) term) (read .term-at .ensures) in
-    (omega arith, lined-more (at-loop .loop .inv .1) (short read) same (c .before .before .put-write-line .ensures))
+    let put = c .before .before in
+    let entry = put .before .before in
+    (omega arith, lined-more (entry .before .before .loop .inv .1) (short entry) (ap lineOf (entry .entry-at .ensures)) (put .put-write-line .ensures))
 
 same-length : tie.Need-same-length Inv-loop μ-loop
 same-length c = put-length (c .before .loop .inv .1 .put)
@@ -66,9 +61,7 @@ put-writes-spec =
     Inv-loop
     μ-loop
     loop-holds
-    mul-put-write-line
-    shared-slice-read-put-write-line
-    term-at-requires
+    entry-at-requires
     put-write-line-requires
     add-i
     loop-less

@@ -15,14 +15,28 @@ use Rattle.transcript.specs.Filled.{Filled, filled, refused-text}
 use Rattle.transcript.proofs.transcript.Statement.{statement}
 use Rattle.transcript.proofs.transcript.Tie as tie
 
-trailer-known : (c : tie.After-out3) → let start = c .before .before .before .before .before .before .before .before .before in Trails (start .args .list .now) (c .before .before .before .before .before .before .before .read-trailer .result)
-trailer-known c = let start = c .before .before .before .before .before .before .before .before .before in
-    trails (start .args .list .now) _ (c .before .before .before .before .before .before .before .read-trailer .ensures) (c .before .before .before .before .before .if1 .taken)
+-- ---- stations: the start; the trailer read, of a list that is run and of one that is refused; the run
 
-after-run : (c : tie.After-out3) → let start = c .before .before .before .before .before .before .before .before .before in
-    Filled (start .args .list .now) (c .before .before .before .run .last .1 .0) (c .before .before .before .run .result)
+abbrev start-of : tie.After-read-trailer → tie.Start
+start-of trailer = trailer .before .before
+
+abbrev run-of : tie.After-out3 → tie.After-run
+run-of c = c .before .before .before
+
+abbrev trailer-of : tie.After-run → tie.After-read-trailer
+trailer-of run = run .before .before .before .before
+
+abbrev refused-of : tie.After-struct-known2 → tie.After-read-trailer
+refused-of c = c .before .before .before .before
+
+trailer-known : (c : tie.After-out3) → let trailer = trailer-of (run-of c) in Trails (start-of trailer .args .list .now) (trailer .read-trailer .result)
+trailer-known c = let trailer = trailer-of (run-of c) in
+    trails (start-of trailer .args .list .now) _ (trailer .read-trailer .ensures) (run-of c .before .before .if1 .taken)
+
+after-run : (c : tie.After-out3) → let run = run-of c in
+    Filled (start-of (trailer-of run) .args .list .now) (run .run .last .1 .0) (run .run .result)
 after-run c =
-    let run = c .before .before .before in
+    let run = run-of c in
     filled _ _ _ _ (trailer-known c .none) (let known = trailer-known c in let n = length-replicate {A = ℕ} 36858 0 in omega arith) (run .run .ensures .0) (run .run .ensures .1)
 
 read-trailer-requires : tie.Need-read-trailer-requires
@@ -57,11 +71,11 @@ returns c =
 cast-put-refused-line : tie.Need-cast-put-refused-line
 cast-put-refused-line c = search needs
 
-refusal-known : (c : tie.After-struct-known2) → let start = c .before .before .before .before .before .before in
-    c .before .before .before .before .read-trailer .result .code ≡ refusal (start .args .list .now)
-refusal-known c = ap (λ (t : Trailer). t .code) (c .before .before .before .before .read-trailer .ensures) ∙ trailer-code _
+refusal-known : (c : tie.After-struct-known2) → let trailer = refused-of c in
+    trailer .read-trailer .result .code ≡ refusal (start-of trailer .args .list .now)
+refusal-known c = ap (λ (t : Trailer). t .code) (refused-of c .read-trailer .ensures) ∙ trailer-code _
 
-short : (c : tie.After-struct-known2) → length (refusedLine (c .before .before .before .before .read-trailer .result .code)) ≤ 12
+short : (c : tie.After-struct-known2) → length (refusedLine (refused-of c .read-trailer .result .code)) ≤ 12
 short c = refused-line-width _ (omega arith)
 
 put-refused-line-requires : tie.Need-put-refused-line-requires
@@ -72,7 +86,7 @@ put-refused-line-requires c κs =
 
 returns-2 : tie.Need-returns-2
 returns-2 c =
-    let list = c .before .before .before .before .before .before .before .args .list .now in
+    let list = start-of (refused-of (c .before)) .args .list .now in
     let known = refusal-known (c .before) in
     let line = short (c .before) in
     let same = put-length (c .put-refused-line .ensures) in

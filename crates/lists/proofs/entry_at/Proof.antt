@@ -2,8 +2,8 @@
 use Prim.Native.Nat.{_+_, _*_}
 use native.Mathlib.Omega.{arith}
 use borrow.Author.Needs.{needs}
-use Rattle.partings.proofs.entry_at.Statement.{statement}
-use Rattle.partings.proofs.entry_at.Tie as tie
+use Rattle.lists.proofs.entry_at.Statement.{statement}
+use Rattle.lists.proofs.entry_at.Tie as tie
 
 mul-node : tie.Need-mul-node
 mul-node c = search needs
@@ -21,7 +21,7 @@ shared-slice-read-low : tie.Need-shared-slice-read-low
 shared-slice-read-low c = search needs
 
 cast-low : tie.Need-cast-low
-cast-low c = let low = c .shared-slice-known2 .given (4 * c .before .before .args .i + 2) in omega arith
+cast-low c = let low = c .shared-slice-known2 .given (4 * c .before .before .args .at + 2) in omega arith
 
 mul-high : tie.Need-mul-high
 mul-high c = search needs
@@ -33,13 +33,13 @@ shared-slice-read-high : tie.Need-shared-slice-read-high
 shared-slice-read-high c = search needs
 
 cast-high : tie.Need-cast-high
-cast-high c = let high = c .shared-slice-known3 .given (4 * c .before .before .before .args .i + 3) in omega arith
+cast-high c = let high = c .shared-slice-known3 .given (4 * c .before .before .before .args .at + 3) in omega arith
 
 mul-t12 : tie.Need-mul-t12
-mul-t12 c = let high = c .shared-slice-known3 .given (4 * c .before .before .before .args .i + 3) in omega arith
+mul-t12 c = let high = c .shared-slice-known3 .given (4 * c .before .before .before .args .at + 3) in omega arith
 
 add-t13 : tie.Need-add-t13
-add-t13 c = let low = c .shared-slice-known3 .given (4 * c .before .before .before .args .i + 2) in let high = c .shared-slice-known3 .given (4 * c .before .before .before .args .i + 3) in omega arith
+add-t13 c = let low = c .shared-slice-known3 .given (4 * c .before .before .before .args .at + 2) in let high = c .shared-slice-known3 .given (4 * c .before .before .before .args .at + 3) in omega arith
 
 returns : tie.Need-returns
 returns c = search needs
