@@ -12,13 +12,9 @@ use Rattle.verdict.specs.Pairs.{kept, only}
 use Rattle.verdict.specs.Clocks.{Logged, clocks, fixed, NoDoubt}
 use Rattle.places.specs.Places.{from}
 use Rattle.logtext.specs.Log.{Row}
-use Rattle.records.specs.Rows.{noRow}
+use Rattle.records.specs.Rows.{noRow, merged}
 use Rattle.doubts.specs.declared.Pair.{Pair}
 use Rattle.doubts.specs.Doubts.{inDoubt, doubtAt, pairsWith, pairs, doubts}
-
--- The records of a log, without their lines.
-abbrev pub merged : List Row → List Logged
-merged rows = map (λ r. r .logged) rows
 
 -- ---- no pair passes the test
 
