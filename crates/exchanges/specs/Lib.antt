@@ -4,3 +4,4 @@ pub mod Moves
 pub mod Filling
 pub mod Ran
 pub mod Passing
+pub mod Allowed

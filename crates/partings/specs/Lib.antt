@@ -1,4 +1,5 @@
 pub mod Difference
 pub mod Reads
 pub mod Entries
+pub mod Alike
 pub mod Runs
