@@ -4,15 +4,11 @@ use mathlib.Core.List.{List, [], _∷_, _++_, map}
 use Prim.Native.Nat.{ℕ, suc, _-_}
 use lib.ListN.{length, getD}
 use Rattle.verdict.specs.Pairs.{only}
-use Rattle.verdict.specs.Clocks.{Logged, clocks, fixed}
+use Rattle.verdict.specs.Clocks.{clocks, fixed}
 use Rattle.places.specs.Places.{from}
 use Rattle.logtext.specs.Log.{Row}
 use Rattle.records.specs.Rows.{noRow}
 use Rattle.doubts.specs.declared.Pair.{Pair}
-
--- The records of a log, without their lines.
-abbrev pub merged : List Row → List Logged
-merged rows = map (λ r. r .logged) rows
 
 -- ---- two records
 

@@ -60,7 +60,7 @@ module _ (test : ℕ → ℕ → Bool) (n : ℕ) where
       go true r = ((h, omega arith), r)
       go false r = r
 
-  pairs-inside : (a k : ℕ) → a + k ≡ n → All (Inside n) (pairs test n (from a k))
+  pub pairs-inside : (a k : ℕ) → a + k ≡ n → All (Inside n) (pairs test n (from a k))
   unfolding pairs
   pairs-inside a zero e = tt
   pairs-inside a (suc k) e =

@@ -12,9 +12,9 @@ use Rattle.verdict.specs.Pairs.{kept, only}
 use Rattle.verdict.specs.Clocks.{Logged, clocks, fixed, NoDoubt}
 use Rattle.places.specs.Places.{from}
 use Rattle.logtext.specs.Log.{Row}
-use Rattle.records.specs.Rows.{noRow}
+use Rattle.records.specs.Rows.{noRow, merged}
 use Rattle.doubts.specs.declared.Pair.{Pair}
-use Rattle.doubts.specs.Doubts.{merged, inDoubt, doubtAt, pairsWith, pairs, doubts}
+use Rattle.doubts.specs.Doubts.{inDoubt, doubtAt, pairsWith, pairs, doubts}
 
 -- ---- no pair passes the test
 

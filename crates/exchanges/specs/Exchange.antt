@@ -1,19 +1,21 @@
--- One exchange of two records that are in doubt, where the clocks allow it, and what it does to the history.
+-- One exchange of two records that are in doubt, where the clocks allow it, and what it does to the history. `Allowed` proves what it is.
+use mathlib.Core.Path.{_≡_}
 use mathlib.Core.Bool.{Bool, true, false, cond, not, _&&_}
 use mathlib.Core.List.{List}
-use Prim.Native.Nat.{ℕ, suc, _+_, _-_}
+use Prim.Native.Nat.{ℕ, suc, _+_, _-_, _<_}
 use lib.Dec.{eqb, leb, ltb}
 use lib.ListN.{length, getD}
 use Rattle.rules.specs.State.{Write}
 use Rattle.rules.specs.Range.{all}
 use Rattle.rules.specs.Step.{step, fresh}
 use Rattle.rules.specs.Run.{run}
+use Rattle.verdict.specs.Clocks.{SameLogs, clocks, Timely}
 use Rattle.seqs.specs.Arrays.{table}
 use Rattle.places.specs.Places.{from}
 use Rattle.partings.specs.declared.Parting.{Parting}
 use Rattle.partings.specs.Difference.{difference}
 use Rattle.logtext.specs.Log.{Row}
-use Rattle.records.specs.Rows.{noRow, stepsOf}
+use Rattle.records.specs.Rows.{noRow, stepsOf, merged}
 
 -- ---- which record stands at a place of the exchanged merge
 
@@ -42,6 +44,11 @@ mayPass bound false m z = not (eqb (z .logged .log) (m .logged .log)) && leb (z 
 abbrev pub allowed : ℕ → List Row → Bool → ℕ → ℕ → Bool
 allowed bound rows true x y = all (λ z. mayPass bound true (getD rows y noRow) (getD rows z noRow)) (from x (y - x))
 allowed bound rows false x y = all (λ z. mayPass bound false (getD rows x noRow) (getD rows z noRow)) (from (suc x) (y - x))
+
+-- Such an exchange makes of a merge that the clocks allow another merge of the same logs that they allow.
+abbrev pub ExchangeAllowed : Type 0
+ExchangeAllowed = (bound : ℕ) (rows : List Row) (up : Bool) (x y : ℕ) → x < y → y < length rows → allowed bound rows up x y ≡ true → Timely (clocks bound) (merged rows)
+    → SameLogs (merged rows) (merged (exchanged up x y rows)) × Timely (clocks bound) (merged (exchanged up x y rows))
 
 -- ---- what it does to the history
 

@@ -6,3 +6,4 @@ pub mod Moves
 pub mod Filling
 pub mod Ran
 pub mod Passing
+pub mod Allowed

@@ -21,7 +21,7 @@ unfolding all
 all-true test a zero h = refl
 all-true test a (suc k) h = rw (h a (omega arith) (omega arith)) (all-true test (suc a) k (λ j l u. h j (omega arith) (omega arith)))
 
-all-false : (test : ℕ → Bool) (a k j : ℕ) → a ≤ j → j < a + k → test j ≡ false → all test (from a k) ≡ false
+pub all-false : (test : ℕ → Bool) (a k j : ℕ) → a ≤ j → j < a + k → test j ≡ false → all test (from a k) ≡ false
 unfolding all
 all-false test a zero j l u e = absurd (omega arith)
 all-false test a (suc k) j l u e = go (ℕ-discrete a j) (λ m. all-false test (suc a) k j m (omega arith) e)

@@ -17,7 +17,7 @@ use Rattle.logtext.specs.declared.Line.the-variants.{Blank, Two, Four, O
 use Rattle.logtext.specs.declared.Head.{Head}
 use Rattle.logtext.specs.Text.{lines, lineOf}
 use Rattle.logtext.specs.Numbers.{first-true, both-true}
-use Rattle.logtext.specs.Log.{mostRecords, Row, fits, rowOn, Part, after, part, noHead, headOn, headed, readLines, readText}
+use Rattle.logtext.specs.Log.{mostRecords, Row, fits, rowOn, Part, after, part, Reading, badHead, noHead, headOn, headed, readLines, readText}
 
 pub fits-few : (count k : ℕ) (l : Line) → count ≤ mostRecords → fits count l ≡ true → count + length (rowOn k l) ≤ mostRecords
 fits-few count k Blank h e = omega arith
@@ -42,65 +42,66 @@ part-few count k (l ∷ ls) h = go (fits count (lineOf l)) refl (part-few (count
     go true e f = let z = f (fits-few count k (lineOf l) h e) in let n = length-append (rowOn k (lineOf l)) (rest .rows) in omega arith
     go false e f = omega arith
 
-headed-few : (h : Head) (p : Part) → length (p .rows) ≤ mostRecords → length (headed h p .rows) ≤ mostRecords
-headed-few h p k = go (h .good)
+-- What holds of every text whose head is refused, and of every other, holds of all.
+each-reading : (P : Reading → Type 0) → ((k : ℕ) → P (badHead (suc k))) → ((k : ℕ) (l : Line) (ls : List (List ℕ)) → P (headed (suc k) (headOn l) (part 0 (suc (suc k)) ls)))
+    → (k : ℕ) (ls : List (List ℕ)) → P (readLines (suc k) ls)
+each-reading P bad good k [] = bad 0
+each-reading P bad good k (l ∷ ls) = go (headOn (lineOf l) .empty) (each-reading P bad good (suc k) ls)
   where
-    go : (b : Bool) → length (headed (record { good = b; nodes = h .nodes; bound = h .bound }) p .rows) ≤ mostRecords
-    go true = k
+    go : (b : Bool) → P (readLines (suc (suc k)) ls) → P (cond b (readLines (suc (suc k)) ls) (headed (suc k) (headOn (lineOf l)) (part 0 (suc (suc k)) ls)))
+    go true next = next
+    go false next = good k (lineOf l) ls
+
+headed-few : (k : ℕ) (h : Head) (p : Part) → length (p .rows) ≤ mostRecords → length (headed k h p .rows) ≤ mostRecords
+headed-few k h p f = go (h .good)
+  where
+    go : (b : Bool) → length (headed k (record { empty = h .empty; good = b; nodes = h .nodes; bound = h .bound }) p .rows) ≤ mostRecords
+    go true = f
     go false = omega arith
 
 pub few-rows : (text : List ℕ) → length (readText text .rows) ≤ mostRecords
 unfolding readText
-few-rows text = go (lines text)
-  where
-    go : (ls : List (List ℕ)) → length (readLines ls .rows) ≤ mostRecords
-    go [] = omega arith
-    go (l ∷ ls) = headed-few (headOn (lineOf l)) (part 0 2 ls) (let z = part-few 0 2 ls (omega arith) in omega arith)
+few-rows text =
+    each-reading (λ r. length (r .rows) ≤ mostRecords) (λ k. omega arith)
+    (λ k l ls. headed-few (suc k) (headOn l) (part 0 (suc (suc k)) ls) (let z = part-few 0 (suc (suc k)) ls (omega arith) in omega arith)) 0 (lines text)
 
 head-nodes : (l : Line) → headOn l .nodes ≤ 8
 head-nodes Blank = omega arith
 head-nodes (Two n d) = go (within 1 mostNodes n) refl
   where
-    go : (b : Bool) → within 1 mostNodes n ≡ b → cond b (record { good = true; nodes = n; bound = d }) noHead .nodes ≤ 8
+    go : (b : Bool) → within 1 mostNodes n ≡ b → cond b (record { empty = false; good = true; nodes = n; bound = d }) (noHead false) .nodes ≤ 8
     go true e = let z = is-within 1 mostNodes n .to (rw e tt) .upper in omega arith
     go false e = omega arith
 head-nodes (Four a b c d) = omega arith
 head-nodes Other = omega arith
 
-headed-nodes : (h : Head) (p : Part) → h .nodes ≤ 8 → headed h p .nodes ≤ 8
-headed-nodes h p k = go (h .good)
+headed-nodes : (k : ℕ) (h : Head) (p : Part) → h .nodes ≤ 8 → headed k h p .nodes ≤ 8
+headed-nodes k h p f = go (h .good)
   where
-    go : (b : Bool) → headed (record { good = b; nodes = h .nodes; bound = h .bound }) p .nodes ≤ 8
-    go true = k
+    go : (b : Bool) → headed k (record { empty = h .empty; good = b; nodes = h .nodes; bound = h .bound }) p .nodes ≤ 8
+    go true = f
     go false = omega arith
 
 pub few-nodes : (text : List ℕ) → readText text .nodes ≤ 8
 unfolding readText
-few-nodes text = go (lines text)
-  where
-    go : (ls : List (List ℕ)) → readLines ls .nodes ≤ 8
-    go [] = omega arith
-    go (l ∷ ls) = headed-nodes (headOn (lineOf l)) (part 0 2 ls) (head-nodes (lineOf l))
+few-nodes text =
+    each-reading (λ r. r .nodes ≤ 8) (λ k. omega arith) (λ k l ls. headed-nodes (suc k) (headOn l) (part 0 (suc (suc k)) ls) (head-nodes l)) 0 (lines text)
 
 -- A log that is not refused has a node.
 pub good-nodes : (text : List ℕ) → readText text .refused ≡ 0 → 1 ≤ readText text .nodes
 unfolding readText
-good-nodes text = go (lines text)
+good-nodes text = each-reading (λ r. r .refused ≡ 0 → 1 ≤ r .nodes) (λ k e. absurd (omega arith)) (λ k l ls. said k l (part 0 (suc (suc k)) ls)) 0 (lines text)
   where
-    said : (l : Line) (p : Part) → headed (headOn l) p .refused ≡ 0 → 1 ≤ headed (headOn l) p .nodes
-    said Blank p e = absurd (omega arith)
-    said (Two n d) p e = pick (within 1 mostNodes n) refl e
+    said : (k : ℕ) (l : Line) (p : Part) → headed (suc k) (headOn l) p .refused ≡ 0 → 1 ≤ headed (suc k) (headOn l) p .nodes
+    said k Blank p e = absurd (omega arith)
+    said k (Two n d) p e = pick (within 1 mostNodes n) refl e
       where
-        pick : (b : Bool) → within 1 mostNodes n ≡ b → headed (cond b (record { good = true; nodes = n; bound = d }) noHead) p .refused ≡ 0
-            → 1 ≤ headed (cond b (record { good = true; nodes = n; bound = d }) noHead) p .nodes
+        pick : (b : Bool) → within 1 mostNodes n ≡ b → headed (suc k) (cond b (record { empty = false; good = true; nodes = n; bound = d }) (noHead false)) p .refused ≡ 0
+            → 1 ≤ headed (suc k) (cond b (record { empty = false; good = true; nodes = n; bound = d }) (noHead false)) p .nodes
         pick true i u = is-within 1 mostNodes n .to (rw i tt) .lower
         pick false i u = absurd (omega arith)
-    said (Four a b c d) p e = absurd (omega arith)
-    said Other p e = absurd (omega arith)
-
-    go : (ls : List (List ℕ)) → readLines ls .refused ≡ 0 → 1 ≤ readLines ls .nodes
-    go [] e = absurd (omega arith)
-    go (l ∷ ls) e = said (lineOf l) (part 0 2 ls) e
+    said k (Four a b c d) p e = absurd (omega arith)
+    said k Other p e = absurd (omega arith)
 
 -- ---- kinds and nodes fit bytes
 
@@ -134,15 +135,11 @@ small-steps (r ∷ rows) s = (s .0, small-steps rows (s .1))
 
 pub small-rows : (text : List ℕ) → All (λ e. (e .kind < 256) × (e .node < 256)) (map (λ r. r .logged .event) (readText text .rows))
 unfolding readText
-small-rows text = small-steps (readLines (lines text) .rows) (go (lines text))
+small-rows text = small-steps (readLines 1 (lines text) .rows) (each-reading (λ r. All Small (r .rows)) (λ k. tt) (λ k l ls. head (suc k) (headOn l) (part 0 (suc (suc k)) ls) (small-part 0 (suc (suc k)) ls)) 0 (lines text))
   where
-    head : (h : Head) (p : Part) → All Small (p .rows) → All Small (headed h p .rows)
-    head h p s = pick (h .good)
+    head : (k : ℕ) (h : Head) (p : Part) → All Small (p .rows) → All Small (headed k h p .rows)
+    head k h p s = pick (h .good)
       where
-        pick : (b : Bool) → All Small (headed (record { good = b; nodes = h .nodes; bound = h .bound }) p .rows)
+        pick : (b : Bool) → All Small (headed k (record { empty = h .empty; good = b; nodes = h .nodes; bound = h .bound }) p .rows)
         pick true = s
         pick false = tt
-
-    go : (ls : List (List ℕ)) → All Small (readLines ls .rows)
-    go [] = tt
-    go (l ∷ ls) = head (headOn (lineOf l)) (part 0 2 ls) (small-part 0 2 ls)

@@ -1,4 +1,4 @@
--- A merged log as text: the first line has the node count and the clocks' bound, each other line a record or nothing.
+-- A merged log as text: the first line that is not empty has the node count and the clocks' bound, each line behind it a record or nothing.
 use mathlib.Core.Bool.{Bool, true, false, cond, _&&_}
 use mathlib.Core.List.{List, [], _∷_, _++_}
 use Prim.Native.Nat.{ℕ, suc, _+_}
@@ -69,28 +69,30 @@ pub record Reading : Type 0 where
   pub bound : ℕ
   pub rows : List Row
 
-abbrev pub badHead : Reading
-badHead = record { refused = 1; nodes = 0; bound = 0; rows = [] }
+abbrev pub badHead : ℕ → Reading
+badHead k = record { refused = k; nodes = 0; bound = 0; rows = [] }
 
-abbrev pub noHead : Head
-noHead = record { good = false; nodes = 0; bound = 0 }
+abbrev pub noHead : Bool → Head
+noHead empty = record { empty = empty; good = false; nodes = 0; bound = 0 }
 
--- What the first line says.
+-- What a first line says.
 abbrev pub headOn : Line → Head
-headOn Blank = noHead
-headOn (Two nodes bound) = cond (within 1 mostNodes nodes) (record { good = true; nodes = nodes; bound = bound }) noHead
-headOn (Four a b c d) = noHead
-headOn Other = noHead
+headOn Blank = noHead true
+headOn (Two nodes bound) = cond (within 1 mostNodes nodes) (record { empty = false; good = true; nodes = nodes; bound = bound }) (noHead false)
+headOn (Four a b c d) = noHead false
+headOn Other = noHead false
 
-abbrev pub headed : Head → Part → Reading
-headed h p = cond (h .good) (record { refused = p .refused; nodes = h .nodes; bound = h .bound; rows = p .rows }) badHead
+-- Line k has the head.
+abbrev pub headed : ℕ → Head → Part → Reading
+headed k h p = cond (h .good) (record { refused = p .refused; nodes = h .nodes; bound = h .bound; rows = p .rows }) (badHead k)
 
-abbrev pub readLines : List (List ℕ) → Reading
-readLines [] = badHead
-readLines (l ∷ ls) = headed (headOn (lineOf l)) (part 0 2 ls)
+-- The lines from number k on, where those before are empty. Where all are, line 1 is refused.
+abbrev pub readLines : ℕ → List (List ℕ) → Reading
+readLines k [] = badHead 1
+readLines k (l ∷ ls) = cond (headOn (lineOf l) .empty) (readLines (suc k) ls) (headed k (headOn (lineOf l)) (part 0 (suc k) ls))
 
 unfoldable pub readText : List ℕ → Reading
-readText text = readLines (lines text)
+readText text = readLines 1 (lines text)
 
 -- ---- what the code answers
 

@@ -16,9 +16,10 @@ use Rattle.text.specs.Put.{Put}
 use Rattle.text.specs.Puts.{put-none, put-then}
 use Rattle.places.specs.Seek.{Sought}
 use Rattle.logtext.specs.declared.Line.{Line}
-use Rattle.logtext.specs.declared.Line.the-variants.{Two, Four}
+use Rattle.logtext.specs.declared.Line.the-variants.{Blank, Two, Four, Other}
 use Rattle.logtext.specs.declared.Taken.{Taken}
 use Rattle.logtext.specs.declared.Head.{Head}
+use Rattle.logtext.specs.declared.Log.{Log}
 use Rattle.logtext.specs.Text.{isNewline, lines, lineOf}
 use Rattle.logtext.specs.Words.{first-piece, only-piece}
 use Rattle.logtext.specs.Known.{fits-few}
@@ -114,27 +115,27 @@ pub record ReadPart (p : Part) (before after : List ℕ) (r n : ℕ) : Type 0 wh
   pub content : after ≡ sets before 0 (numbersIn (p .rows))
 
 -- The lines before line k are read; it starts at a place.
-pub record Going (text : List ℕ) (start : ℕ) (before rows : List ℕ) (at k count : ℕ) : Type 0 where
+pub record Going (text : List ℕ) (start first : ℕ) (before rows : List ℕ) (at k count : ℕ) : Type 0 where
   pub done : List Row
   pub place : at ≤ length text + 1
-  pub number : k ≤ at + 2
+  pub number : k ≤ at + 1
   pub few : count ≤ mostRecords
   pub counted : count ≡ length done
   pub put : Put before 0 (numbersIn done) rows (5 * count)
-  pub going : behind done (part count k (linesFrom text at)) ≡ part 0 2 (linesFrom text start)
+  pub going : behind done (part count k (linesFrom text at)) ≡ part 0 first (linesFrom text start)
 
-pub going-starts : (text : List ℕ) (start : ℕ) (before : List ℕ) → start ≤ length text + 1 → Going text start before before start 2 0
+pub going-starts : (text : List ℕ) (start first : ℕ) (before : List ℕ) → start ≤ length text + 1 → first ≤ start + 1 → Going text start first before before start first 0
 unfolding numbersIn
-going-starts text start before h = record { done = []; place = h; number = omega arith; few = omega arith; counted = refl; put = put-none before 0; going = refl }
+going-starts text start first before h n = record { done = []; place = h; number = n; few = omega arith; counted = refl; put = put-none before 0; going = refl }
 
-module _ {text : List ℕ} {start : ℕ} {before rows : List ℕ} {at k count : ℕ} (g : Going text start before rows at k count) where
+module _ {text : List ℕ} {start first : ℕ} {before rows : List ℕ} {at k count : ℕ} (g : Going text start first before rows at k count) where
   -- All of them are read, as far as the lines are good.
-  all-read : {r : ℕ} → record { refused = r; rows = g .done ++ [] } ≡ part 0 2 (linesFrom text start) → ReadPart (part 0 2 (linesFrom text start)) before rows r count
+  all-read : {r : ℕ} → record { refused = r; rows = g .done ++ [] } ≡ part 0 first (linesFrom text start) → ReadPart (part 0 first (linesFrom text start)) before rows r count
   all-read {r} e =
-      let all : g .done ≡ part 0 2 (linesFrom text start) .rows = sym (append-nil (g .done)) ∙ ap (λ (p : Part). p .rows) e in
+      let all : g .done ≡ part 0 first (linesFrom text start) .rows = sym (append-nil (g .done)) ∙ ap (λ (p : Part). p .rows) e in
       record { stopped = ap (λ (p : Part). p .refused) e; counted = g .counted ∙ ap length all; content = g .put .content ∙ ap (λ (l : List Row). sets before 0 (numbersIn l)) all }
 
-  pub going-ends : length text < at → ReadPart (part 0 2 (linesFrom text start)) before rows 0 count
+  pub going-ends : length text < at → ReadPart (part 0 first (linesFrom text start)) before rows 0 count
   unfolding part
   going-ends h =
       let end : linesFrom text at ≡ [] = rw (lt-leb at (length text) h) in
@@ -145,7 +146,7 @@ module _ {text : List ℕ} {start : ℕ} {before rows : List ℕ} {at k count : 
     rest : Part
     rest = part (count + length (rowOn k line)) (suc k) (linesFrom text (end + 1))
 
-    next : behind (g .done) (after (t .fits) k (rowOn k line) rest) ≡ part 0 2 (linesFrom text start)
+    next : behind (g .done) (after (t .fits) k (rowOn k line) rest) ≡ part 0 first (linesFrom text start)
     unfolding part rest
     next =
         ap (λ (b : Bool). behind (g .done) (after b k (rowOn k line) (part (count + length (rowOn k line)) (suc k) (linesFrom text (end + 1))))) (took .fitting)
@@ -153,10 +154,10 @@ module _ {text : List ℕ} {start : ℕ} {before rows : List ℕ} {at k count : 
         ∙ ap (λ (ls : List (List ℕ)). behind (g .done) (part count k ls)) (sym (lines-more text at end h s))
         ∙ g .going
 
-    pub going-stops : t .fits ≡ false → ReadPart (part 0 2 (linesFrom text start)) before rows′ k count
+    pub going-stops : t .fits ≡ false → ReadPart (part 0 first (linesFrom text start)) before rows′ k count
     going-stops e = rw (took .kept e) (all-read (ap (λ (b : Bool). behind (g .done) (after b k (rowOn k line) rest)) (sym e) ∙ next))
 
-    pub going-more : t .fits ≡ true → Going text start before rows′ (end + 1) (k + 1) (t .count)
+    pub going-more : t .fits ≡ true → Going text start first before rows′ (end + 1) (k + 1) (t .count)
     unfolding rest
     going-more e =
         let n = took .counted e in
@@ -179,37 +180,91 @@ module _ {text : List ℕ} {start : ℕ} {before rows : List ℕ} {at k count : 
 -- ---- the first line
 
 module _ {line : Line} {nodes bound : ℕ} (is : line ≡ Two nodes bound) where
-  pub head-within : leb 1 nodes && leb nodes mostNodes ≡ true → record { good = true; nodes = nodes; bound = bound } ≡ headOn line
+  pub head-within : leb 1 nodes && leb nodes mostNodes ≡ true → record { empty = false; good = true; nodes = nodes; bound = bound } ≡ headOn line
   unfolding within
   head-within e = rw (is, e)
 
-  pub head-outside : leb 1 nodes && leb nodes mostNodes ≡ false → noHead ≡ headOn line
+  pub head-outside : leb 1 nodes && leb nodes mostNodes ≡ false → noHead false ≡ headOn line
   unfolding within
   head-outside e = rw (is, e)
 
-module _ (text : List ℕ) {end : ℕ} (s : Sought (λ k. isNewline (getD text k 0)) 0 (length text) end) {line : Line} (is : line ≡ lineOf (take end text))
-    {h : Head} (says : h ≡ headOn line) where
-  head-read : headed h (part 0 2 (linesFrom text (end + 1))) ≡ readText text
-  unfolding readText
-  head-read =
-      let all : linesFrom text 0 ≡ lines text = rw (le-leb 0 (length text) (omega arith)) in
-      let whole : end - 0 ≡ end = omega arith in
-      ap (λ (x : Head). headed x (part 0 2 (linesFrom text (end + 1)))) says
-      ∙ ap (λ (x : Line). headed (headOn x) (part 0 2 (linesFrom text (end + 1)))) is
-      ∙ ap (λ (n : ℕ). readLines (take n text ∷ linesFrom text (end + 1))) (sym whole)
-      ∙ ap readLines (sym (lines-more text 0 end (omega arith) s) ∙ all)
+-- A line that is good is not empty.
+good-some : (line : Line) → headOn line .good ≡ true → headOn line .empty ≡ false
+good-some Blank e = absurd (true≢false (sym e))
+good-some (Two nodes bound) e = go (within 1 mostNodes nodes)
+  where
+    go : (b : Bool) → cond b (record { empty = false; good = true; nodes = nodes; bound = bound }) (noHead false) .empty ≡ false
+    go true = refl
+    go false = refl
+good-some (Four a b c d) e = refl
+good-some Other e = refl
 
-  pub head-bad : h .good ≡ false → (before : List ℕ) → (logOf badHead ≡ logOf (readText text)) × (before ≡ sets before 0 (numbersIn (readText text .rows)))
+-- The lines before line k are empty; it starts at a place. No row is touched.
+pub record Skipping (text before rows : List ℕ) (at k : ℕ) : Type 0 where
+  pub place : at ≤ length text + 1
+  pub number : k ≤ at + 1
+  pub same : rows ≡ before
+  pub skipped : readLines k (linesFrom text at) ≡ readText text
+
+-- What a reading of the text leaves.
+abbrev pub ReadAll : List ℕ → List ℕ → List ℕ → Log → Type 0
+ReadAll text before after r = (r ≡ logOf (readText text)) × (after ≡ sets before 0 (numbersIn (readText text .rows)))
+
+pub skipping-starts : (text before : List ℕ) → Skipping text before before 0 1
+unfolding readText
+skipping-starts text before =
+    let all : linesFrom text 0 ≡ lines text = rw (le-leb 0 (length text) (omega arith)) in
+    record { place = omega arith; number = omega arith; same = refl; skipped = ap (readLines 1) all }
+
+module _ {text before rows : List ℕ} {at k : ℕ} (g : Skipping text before rows at k) where
+  refused : {j : ℕ} → badHead j ≡ readText text → ReadAll text before rows (logOf (badHead j))
   unfolding numbersIn
-  head-bad e before =
-      let bad : badHead ≡ readText text = ap (λ (b : Bool). cond b (record { refused = part 0 2 (linesFrom text (end + 1)) .refused; nodes = h .nodes; bound = h .bound; rows = part 0 2 (linesFrom text (end + 1)) .rows }) badHead) (sym e) ∙ head-read in
-      (ap logOf bad, ap (λ (r : Reading). sets before 0 (numbersIn (r .rows))) bad)
+  refused e = (ap logOf e, g .same ∙ ap (λ (r : Reading). sets before 0 (numbersIn (r .rows))) e)
 
-  pub head-good : h .good ≡ true → {before after : List ℕ} {r n : ℕ} → ReadPart (part 0 2 (linesFrom text (end + 1))) before after r n
-      → (record { refused = r; nodes = h .nodes; bound = h .bound; count = n } ≡ logOf (readText text)) × (after ≡ sets before 0 (numbersIn (readText text .rows)))
-  head-good e {before} {after} {r} {n} p =
-      let good : record { refused = part 0 2 (linesFrom text (end + 1)) .refused; nodes = h .nodes; bound = h .bound; rows = part 0 2 (linesFrom text (end + 1)) .rows } ≡ readText text =
-      ap (λ (b : Bool). cond b (record { refused = part 0 2 (linesFrom text (end + 1)) .refused; nodes = h .nodes; bound = h .bound; rows = part 0 2 (linesFrom text (end + 1)) .rows }) badHead) (sym e) ∙ head-read in (
-        ap₂ (λ (x y : ℕ). record { refused = x; nodes = h .nodes; bound = h .bound; count = y }) (p .stopped) (p .counted) ∙ ap logOf good,
-        p .content ∙ ap (λ (r : Reading). sets before 0 (numbersIn (r .rows))) good,
-      )
+  pub skipping-ends : length text < at → ReadAll text before rows (logOf (badHead 1))
+  skipping-ends h = let end : linesFrom text at ≡ [] = rw (lt-leb at (length text) h) in refused (ap (readLines k) (sym end) ∙ g .skipped)
+
+  module _ (h : at ≤ length text) {end : ℕ} (s : Sought (λ k. isNewline (getD text k 0)) at (length text) end)
+      {line : Line} (is : line ≡ lineOf (take (end - at) (drop at text))) {head : Head} (says : head ≡ headOn line) where
+    tail : Part
+    tail = part 0 (suc k) (linesFrom text (end + 1))
+
+    here : cond (head .empty) (readLines (suc k) (linesFrom text (end + 1))) (headed k head tail) ≡ readText text
+    unfolding tail
+    here =
+        ap (λ (x : Head). cond (x .empty) (readLines (suc k) (linesFrom text (end + 1))) (headed k x (part 0 (suc k) (linesFrom text (end + 1))))) (says ∙ ap headOn is)
+        ∙ ap (readLines k) (sym (lines-more text at end h s))
+        ∙ g .skipped
+
+    with-head : head .empty ≡ false → headed k head tail ≡ readText text
+    with-head e = ap (λ (b : Bool). cond b (readLines (suc k) (linesFrom text (end + 1))) (headed k head tail)) (sym e) ∙ here
+
+    pub head-bad : head .good ≡ false → head .empty ≡ false → ReadAll text before rows (logOf (badHead k))
+    head-bad e f =
+        refused (ap (λ (b : Bool). cond b (record { refused = tail .refused; nodes = head .nodes; bound = head .bound; rows = tail .rows }) (badHead k)) (sym e) ∙ with-head f)
+
+    pub head-good : head .good ≡ true → {after : List ℕ} {r n : ℕ} → ReadPart (part 0 (k + 1) (linesFrom text (end + 1))) rows after r n
+        → ReadAll text before after (record { refused = r; nodes = head .nodes; bound = head .bound; count = n })
+    unfolding tail
+    head-good e {after} {r} {n} p =
+        let some : head .empty ≡ false = ap (λ (x : Head). x .empty) says ∙ good-some line (sym (ap (λ (x : Head). x .good) says) ∙ e) in
+        let good : record { refused = tail .refused; nodes = head .nodes; bound = head .bound; rows = tail .rows } ≡ readText text =
+        ap (λ (b : Bool). cond b (record { refused = tail .refused; nodes = head .nodes; bound = head .bound; rows = tail .rows }) (badHead k)) (sym e) ∙ with-head some in
+        let q : ReadPart tail rows after r n = rw (add-one k) at p in (
+          ap₂ (λ (x y : ℕ). record { refused = x; nodes = head .nodes; bound = head .bound; count = y }) (q .stopped) (q .counted) ∙ ap logOf good,
+          q .content ∙ ap₂ (λ (l : List ℕ) (t : Reading). sets l 0 (numbersIn (t .rows))) (g .same) good,
+        )
+
+    pub skipping-more : head .empty ≡ true → Skipping text before rows (end + 1) (k + 1)
+    skipping-more e =
+        let low = s .low in
+        let high = s .high in
+        let number = g .number in
+        record {
+          place = omega arith;
+          number = omega arith;
+          same = g .same;
+          skipped = ap (λ (j : ℕ). readLines j (linesFrom text (end + 1))) (add-one k)
+              ∙ ap (λ (b : Bool). cond b (readLines (suc k) (linesFrom text (end + 1))) (headed k head tail)) (sym e)
+              ∙ here;
+        }

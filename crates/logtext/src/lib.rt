@@ -1,4 +1,5 @@
 // Reading a merged log from text: a first line with the node count and the clocks' bound, then a line for each record with its log, time, kind and node.
+// Empty lines are skipped.
 ghost use mathlib.Core.Path.{_≡_};
 ghost use mathlib.Core.Option.{some};
 ghost use mathlib.Core.List.{[], _∷_};
@@ -43,8 +44,9 @@ struct Taken {
     count: usize,
 }
 
-// What the first line says, if it is good.
+// What the first line says, if it is not empty and good.
 struct Head {
+    empty: bool,
     good: bool,
     nodes: u8,
     bound: u64,
@@ -214,13 +216,13 @@ fn take_line(line: Line, k: usize, rows: &mut [u64], count: usize) -> Taken
     }
 }
 
-// The records from the second line on, which starts at a place.
-fn read_rows(text: &[u8], start: usize, rows: &mut [u64]) -> Rows
-    requires { ⌜ (length (now text) ≤ longestText) × (start ≤ length (now text) + 1) × (length (now rows) ≡ rowRoom) ⌝ }
-    ensures { λ r. ⌜ ReadPart (part 0 2 (linesFrom (now (text .entry)) start)) (now (rows .entry)) (now (rows .exit)) (r .refused) (r .count) ⌝ }
+// The records from line number `first` on, which starts at a place.
+fn read_rows(text: &[u8], start: usize, first: usize, rows: &mut [u64]) -> Rows
+    requires { ⌜ (length (now text) ≤ longestText) × (start ≤ length (now text) + 1) × (first ≤ start + 1) × (length (now rows) ≡ rowRoom) ⌝ }
+    ensures { λ r. ⌜ ReadPart (part 0 first (linesFrom (now (text .entry)) start)) (now (rows .entry)) (now (rows .exit)) (r .refused) (r .count) ⌝ }
 {
     let mut at = start;
-    let mut k: usize = 2;
+    let mut k = first;
     let mut count: usize = 0;
     while at <= text.len() {
         let end = line_end(text, at);
@@ -241,29 +243,36 @@ fn read_rows(text: &[u8], start: usize, rows: &mut [u64]) -> Rows
     }
 }
 
-// What the first line says.
+// What a first line says.
 fn head_on(line: Line) -> Head
     ensures { λ r. ⌜ r ≡ headOn line ⌝ }
 {
-    let none = Head {
+    let bad = Head {
+        empty: false,
         good: false,
         nodes: 0,
         bound: 0,
     };
     match line {
-        Line::Blank => none,
+        Line::Blank => Head {
+            empty: true,
+            good: false,
+            nodes: 0,
+            bound: 0,
+        },
         Line::Two(nodes, bound) => {
             if (1 <= nodes) & (nodes <= 8) {
                 return Head {
+                    empty: false,
                     good: true,
                     nodes: nodes as u8,
                     bound: bound,
                 };
             }
-            none
+            bad
         }
-        Line::Four(_, _, _, _) => none,
-        Line::Other => none,
+        Line::Four(_, _, _, _) => bad,
+        Line::Other => bad,
     }
 }
 
@@ -273,16 +282,30 @@ pub fn read_log(text: &[u8], rows: &mut [u64; ROOM]) -> Log
     ensures { λ r. ⌜ (r ≡ logOf (readText (now (text .entry))))
         × (now (rows .exit) ≡ sets (now (rows .entry)) 0 (numbersIn (readText (now (text .entry)) .rows))) ⌝ }
 {
-    let end = line_end(text, 0);
-    let head = head_on(line_of(&text[..end]));
-    if head.good {
-        let read = read_rows(text, end + 1, rows);
-        return Log {
-            refused: read.refused,
-            nodes: head.nodes,
-            bound: head.bound,
-            count: read.count,
-        };
+    let mut at: usize = 0;
+    let mut k: usize = 1;
+    while at <= text.len() {
+        let end = line_end(text, at);
+        let head = head_on(line_of(&text[at..end]));
+        if head.good {
+            let read = read_rows(text, end + 1, k + 1, rows);
+            return Log {
+                refused: read.refused,
+                nodes: head.nodes,
+                bound: head.bound,
+                count: read.count,
+            };
+        }
+        if !head.empty {
+            return Log {
+                refused: k,
+                nodes: 0,
+                bound: 0,
+                count: 0,
+            };
+        }
+        at = end + 1;
+        k += 1;
     }
     Log {
         refused: 1,

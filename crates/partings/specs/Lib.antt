@@ -3,4 +3,5 @@
 -- Laws: Entries, Runs.
 pub mod Difference
 pub mod Entries
+pub mod Alike
 pub mod Runs

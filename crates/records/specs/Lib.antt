@@ -1,4 +1,5 @@
 -- Believed: Rows.
 -- Laws: Times.
 pub mod Rows
+pub mod PairLine
 pub mod Times

@@ -3,6 +3,7 @@ use mathlib.Core.List.{List, map}
 use Prim.Native.Nat.{ℕ, _+_, _*_}
 use lib.ListN.{getD}
 use Rattle.rules.specs.Step.{Event}
+use Rattle.verdict.specs.Clocks.{Logged}
 use Rattle.seqs.specs.Arrays.{table}
 use Rattle.logtext.specs.Log.{Row}
 
@@ -27,3 +28,7 @@ rowsIn l n = table n (rowIn l)
 -- The steps of the records.
 abbrev pub stepsOf : List Row → List Event
 stepsOf rows = map (λ r. r .logged .event) rows
+
+-- The records without their lines: a merge of the logs that they are from.
+abbrev pub merged : List Row → List Logged
+merged rows = map (λ r. r .logged) rows

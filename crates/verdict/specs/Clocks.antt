@@ -1,16 +1,17 @@
 -- The auditor's question: one merge at hand, whose records say which log they are from and the time there. Would another merge that the clocks allow have
--- accepted other writes? For any number of logs. `Merging` proves it. Assumes nothing.
+-- accepted other writes? For any number of logs. `Merging` proves the verdict, `Passing` what is said of exchanges and of sorting. Assumes nothing.
 use mathlib.Core.Path.{_≡_}
+use mathlib.Core.Logic.{_≢_}
 use mathlib.Core.Bool.{Bool, not, _||_}
 use mathlib.Core.List.{List, [], _∷_, map}
-use Prim.Native.Nat.{ℕ, _+_}
+use Prim.Native.Nat.{ℕ, _+_, _≤_}
 use lib.Dec.{T, leb, eqb}
 use Rattle.rules.specs.State.{State}
 use Rattle.rules.specs.Range.{inRange}
 use Rattle.rules.specs.Step.{Event}
 use Rattle.laws.specs.All.{All}
 use Rattle.merges.specs.Independent.{independent}
-use Rattle.verdict.specs.Verdict.{Same}
+use Rattle.verdict.specs.Verdict.{Exchanges, Same}
 use Rattle.verdict.specs.Pairs.{only}
 
 pub record Logged : Type 0 where
@@ -53,3 +54,23 @@ NoDoubt count may (x ∷ l) = All (λ y. T (fixed count may x y)) l × NoDoubt c
 abbrev pub ClockVerdict : Type 0
 ClockVerdict = (s : State) (may : Logged → Logged → Bool) (es : List Logged) → T (inRange s) → NoDoubt (s .count) may es
     → (fs : List Logged) → SameLogs es fs → Timely may fs → Same s (events es) (events fs)
+
+-- ---- other merges that the clocks allow
+
+-- x stands right before y, and the two may change places: they are of different logs, and y may stand before x.
+abbrev pub MayPass : (Logged → Logged → Bool) → Logged → Logged → Type 0
+MayPass may x y = (x .log ≢ y .log) × T (may y x)
+
+-- Such exchanges make of a merge that the clocks allow another merge of the same logs that they allow.
+abbrev pub StillAllowed : Type 0
+StillAllowed = (may : Logged → Logged → Bool) (es fs : List Logged) → Exchanges (MayPass may) es fs → Timely may es → SameLogs es fs × Timely may fs
+
+-- No time is later than the next.
+abbrev pub Sorted : List Logged → Type 0
+Sorted [] = Unit {0}
+Sorted (x ∷ []) = Unit {0}
+Sorted (x ∷ y ∷ l) = (x .time ≤ y .time) × Sorted (y ∷ l)
+
+-- Clocks that are at most d apart allow a merge that is sorted by time.
+abbrev pub SortedAllowed : Type 0
+SortedAllowed = (d : ℕ) (es : List Logged) → Sorted es → Timely (clocks d) es

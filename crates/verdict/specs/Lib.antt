@@ -10,4 +10,5 @@ pub mod Exact
 pub mod Kept
 pub mod Projections
 pub mod Merging
+pub mod Passing
 pub mod Owned

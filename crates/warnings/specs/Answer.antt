@@ -9,15 +9,12 @@ use Rattle.text.specs.Line.{line}
 use Rattle.report.specs.Words as R
 use Rattle.report.specs.Report.{partingLine}
 use Rattle.exchanges.specs.Exchange.{allowed, partingOf}
-use Rattle.logtext.specs.Log.{longestText, Row, rowNumbers, Reading, readText}
+use Rattle.logtext.specs.Log.{longestText, Row, Reading, readText}
 use Rattle.doubts.specs.declared.Pair.{Pair}
 use Rattle.records.specs.Rows.{noRow}
+use Rattle.records.specs.PairLine.{pairLine}
 use Rattle.doubts.specs.Doubts.{doubts}
 use Rattle.warnings.specs.Words as W
-
--- A pair in doubt: line, log, time, kind and node of both records.
-abbrev pub pairLine : List Row → Pair → List ℕ
-pairLine rows p = line W.doubt (rowNumbers (getD rows (p .x) noRow) ++ rowNumbers (getD rows (p .y) noRow))
 
 -- What the exchange does that the clocks allow: the second record moved up to the first, or else the first moved down to the second.
 unfoldable pub outcome : ℕ → ℕ → List Row → Pair → List ℕ
@@ -28,8 +25,9 @@ outcome count bound rows p =
     (partingLine (partingOf count rows false (p .x) (p .y)))
     (line W.unsettled []))
 
+-- The two records, and what is known of them.
 abbrev pub pairText : ℕ → ℕ → List Row → Pair → List ℕ
-pairText count bound rows p = pairLine rows p ++ outcome count bound rows p
+pairText count bound rows p = pairLine bound (getD rows (p .x) noRow) (getD rows (p .y) noRow) ++ outcome count bound rows p
 
 -- The first so many of them; and whether there are more.
 unfoldable pub shown : (Pair → List ℕ) → ℕ → List Pair → List ℕ

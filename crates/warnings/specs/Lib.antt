@@ -5,3 +5,6 @@ pub mod Answer
 pub mod Showing
 pub mod Rows
 pub mod Promise
+pub mod Told
+pub mod Lines
+pub mod Telling

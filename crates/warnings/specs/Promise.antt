@@ -1,11 +1,11 @@
 -- What "same" promises: every merge of the same logs that the clocks allow ends in the same state with the same history. Assumes nothing.
 use mathlib.Core.Path.{_≡_, refl}
 use mathlib.Core.Bool.{Bool, true, false, cond}
-use mathlib.Core.List.{List, [], _∷_}
+use mathlib.Core.List.{List, [], _∷_, _++_}
 use Prim.Native.Nat.{ℕ}
 use native.Mathlib.Omega.{arith}
 use lib.Dec.{eqb, leb}
-use lib.ListN.{length}
+use lib.ListN.{length, getD}
 use borrow.Author.Tests.{eqb-true}
 use Rattle.rules.specs.Step.{fresh}
 use Rattle.laws.specs.Steps.{fresh-fits}
@@ -16,8 +16,10 @@ use Rattle.text.specs.Line.{line}
 use Rattle.report.specs.Words as R
 use Rattle.logtext.specs.Log.{longestText, Row, readText}
 use Rattle.logtext.specs.Known.{few-nodes, good-nodes}
+use Rattle.records.specs.Rows.{noRow, merged}
+use Rattle.records.specs.PairLine.{doubt, against}
 use Rattle.doubts.specs.declared.Pair.{Pair}
-use Rattle.doubts.specs.Doubts.{doubts, merged}
+use Rattle.doubts.specs.Doubts.{doubts}
 use Rattle.doubts.specs.Nothing.{no-doubt}
 use Rattle.warnings.specs.Words as W
 use Rattle.warnings.specs.Answer.{pairText, shown, doubtsText, logText, answer, Certain}
@@ -28,9 +30,13 @@ pub said-same : (count bound : ℕ) (rows : List Row) → logText count bound ro
 unfolding doubtsText shown line
 said-same count bound rows e = go (doubts count bound rows) e
   where
+    other : (b : Bool) (ns l m : List ℕ) → (line (cond b doubt against) ns ++ l) ++ m ≡ line R.same [] → ⊥
+    other true ns l m e = let z : _≡_ {A = ℕ} 100 115 = cc in omega arith
+    other false ns l m e = let z : _≡_ {A = ℕ} 97 115 = cc in omega arith
+
     go : (ps : List Pair) → doubtsText (pairText count bound rows) ps ≡ line R.same [] → ps ≡ []
     go [] e = refl
-    go (p ∷ ps) e = absurd (let z : _≡_ {A = ℕ} 100 115 = cc in omega arith)
+    go (p ∷ ps) e = absurd (other (clocks bound (getD rows (p .x) noRow .logged) (getD rows (p .y) noRow .logged)) _ _ _ e)
 
 -- A text for which "same" is printed is certain.
 pub certain : (text : List ℕ) → answer text ≡ line R.same [] → Certain text

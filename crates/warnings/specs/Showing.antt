@@ -15,15 +15,16 @@ use Rattle.report.specs.Words as R
 use Rattle.report.specs.Report.{partingLine}
 use Rattle.partings.specs.declared.Parting.{Parting}
 use Rattle.seqs.specs.Tables.{table-get}
-use Rattle.logtext.specs.Log.{Row, rowNumbers}
+use Rattle.logtext.specs.Log.{Row}
 use Rattle.exchanges.specs.Exchange.{allowed, partingOf}
 use Rattle.records.specs.Rows.{noRow, rowIn, rowsIn}
+use Rattle.records.specs.PairLine.{pairLine}
 use Rattle.doubts.specs.declared.Pair.{Pair}
 use Rattle.doubts.specs.Doubts.{doubts}
 use Rattle.doubts.specs.Found.{mostPairs, Found}
 use Rattle.doubts.specs.Inside.{noPair, pairIn, pairs-said}
 use Rattle.warnings.specs.Words as W
-use Rattle.warnings.specs.Answer.{pairLine, outcome, pairText, shown, mostShown, doubtsText, logText}
+use Rattle.warnings.specs.Answer.{outcome, pairText, shown, mostShown, doubtsText, logText}
 
 -- The bytes of a pair, at most.
 abbrev pub pairRoom : ℕ
@@ -128,9 +129,9 @@ module _ (count bound : ℕ) (rows : List Row) {k : ℕ} (e : k ≡ length (take
 
 -- ---- the lines, by the numbers that the code holds
 
-pub pair-line : (l : List ℕ) (n : ℕ) (p : Pair) → p .x < n → p .y < n
-    → line W.doubt (rowNumbers (rowIn l (p .x)) ++ rowNumbers (rowIn l (p .y))) ≡ pairLine (rowsIn l n) p
-pair-line l n p h k = sym (ap₂ (λ (a b : Row). line W.doubt (rowNumbers a ++ rowNumbers b)) (table-get n (rowIn l) (p .x) noRow h) (table-get n (rowIn l) (p .y) noRow k))
+pub pair-line : (bound : ℕ) (l : List ℕ) (n : ℕ) (p : Pair) → p .x < n → p .y < n
+    → pairLine bound (rowIn l (p .x)) (rowIn l (p .y)) ≡ pairLine bound (getD (rowsIn l n) (p .x) noRow) (getD (rowsIn l n) (p .y) noRow)
+pair-line bound l n p h k = sym (ap₂ (pairLine bound) (table-get n (rowIn l) (p .x) noRow h) (table-get n (rowIn l) (p .y) noRow k))
 
 -- ---- what an exchange does, by the tests that the code makes
 

@@ -1,11 +1,7 @@
--- The words of the text that only this program has.
+-- The words of the text that only this program has, beside those of a pair.
 use mathlib.Core.List.{List, [], _∷_}
 use Prim.Native.Nat.{ℕ}
 use Rattle.text.specs.Lines.{blank}
-
--- "doubt"
-abbrev pub doubt : List ℕ
-doubt = 100 ∷ 111 ∷ 117 ∷ 98 ∷ 116 ∷ []
 
 -- "open"
 abbrev pub unsettled : List ℕ

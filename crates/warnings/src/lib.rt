@@ -6,7 +6,7 @@ ghost use Rattle.records.specs.Rows.{rowsIn};
 ghost use Rattle.exchanges.specs.Ran.{AtHand};
 ghost use Rattle.doubts.specs.Doubts.{doubts};
 ghost use Rattle.doubts.specs.Found.{mostPairs};
-ghost use Rattle.warnings.specs.Answer.{pairLine, outcome, pairText, shown, mostShown, logText, answer};
+ghost use Rattle.warnings.specs.Answer.{outcome, pairText, shown, mostShown, logText, answer};
 ghost use Rattle.warnings.specs.Rows.{Known};
 ghost use Rattle.warnings.specs.Showing.{longest, Say};
 use doubts::Pair;
@@ -16,28 +16,6 @@ const MOST_SHOWN: usize = 16;
 
 // Room for the longest text: 16 pairs of 384 bytes and a line of 5.
 pub const LONGEST_ANSWER: usize = 8192;
-
-// A pair in doubt: line, log, time, kind and node of both records.
-fn put_pair_line(buf: &mut [u8], at: usize, rows: &[u64], n: usize, pair: Pair) -> usize
-    requires { ⌜ (5 * n ≤ length (now rows)) × (pair .x < n) × (pair .y < n) × (at + 256 ≤ length (now buf)) ⌝ }
-    ensures { λ r. ⌜ Put (now (buf .entry)) at (pairLine (rowsIn (now (rows .entry)) n) pair) (now (buf .exit)) r × (r ≤ at + 256) ⌝ }
-{
-    let x = 5 * pair.x;
-    let y = 5 * pair.y;
-    let numbers = [
-        rows[x],
-        rows[x + 1],
-        rows[x + 2],
-        rows[x + 3],
-        rows[x + 4],
-        rows[y],
-        rows[y + 1],
-        rows[y + 2],
-        rows[y + 3],
-        rows[y + 4],
-    ];
-    text::put_line(buf, at, b"doubt", &numbers)
-}
 
 // What the exchange of a pair does that the clocks allow.
 fn put_outcome(
@@ -80,7 +58,7 @@ fn put_pair(
     requires { ⌜ Known nodes (now rows) n × AtHand nodes (now rows) n (now mine) writes × (pair .x < pair .y) × (pair .y < n) × (at + 384 ≤ length (now buf)) ⌝ }
     ensures { λ r. ⌜ Put (now (buf .entry)) at (pairText nodes bound (rowsIn (now (rows .entry)) n) pair) (now (buf .exit)) r × (r ≤ at + 384) ⌝ }
 {
-    let next = put_pair_line(buf, at, rows, n, pair);
+    let next = records::put_pair(buf, at, rows, pair.x, pair.y, bound);
     put_outcome(buf, next, rows, n, nodes, bound, pair, mine, writes)
 }
 

@@ -10,14 +10,14 @@ use Rattle.logtext.proofs.read_rows.Statement.{statement}
 use Rattle.logtext.proofs.read_rows.Tie as tie
 
 abbrev Inv-loop : tie.InvT-loop
-Inv-loop text start rows₀ at₀ k₀ count₀ rows at k count = Going text start rows₀ rows at k count
+Inv-loop text start first rows₀ at₀ k₀ count₀ rows at k count = Going text start first rows₀ rows at k count
 
 abbrev μ-loop : tie.MeasureT-loop
-μ-loop text start rows₀ at₀ k₀ count₀ rows at k count = length text + 1 - at
+μ-loop text start first rows₀ at₀ k₀ count₀ rows at k count = length text + 1 - at
 
 -- src/lib.rt:212:5
 loop-holds : tie.Need-loop-holds Inv-loop μ-loop
-loop-holds c = going-starts _ _ _ (c .before .before .pre .1)
+loop-holds c = going-starts _ _ _ _ (c .before .before .pre .1) (c .before .before .pre .2)
 
 -- src/lib.rt:213:13
 line-end-requires : tie.Need-line-end-requires Inv-loop μ-loop
@@ -41,7 +41,7 @@ line-of-requires c κs = search needs
 
 -- src/lib.rt:214:13
 take-line-requires : tie.Need-take-line-requires Inv-loop μ-loop
-take-line-requires c κs = (c .before .before .before .before .before .loop .inv .few, put-length (c .before .before .before .before .before .loop .inv .put) ∙ c .before .before .before .before .before .before .before .before .pre .2)
+take-line-requires c κs = (c .before .before .before .before .before .loop .inv .few, put-length (c .before .before .before .before .before .loop .inv .put) ∙ c .before .before .before .before .before .before .before .before .pre .3)
 
 -- src/lib.rt:216:13
 same-length : tie.Need-same-length Inv-loop μ-loop
