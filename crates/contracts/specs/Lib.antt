@@ -1,0 +1,5 @@
+pub mod Contract
+pub mod Calls
+pub mod Only
+pub mod One
+pub mod Steps
