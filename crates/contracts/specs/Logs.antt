@@ -1,0 +1,56 @@
+-- A merged log that tells wrong programs apart: all that the contract of `answer` lets be printed of it. Assumes nothing.
+use mathlib.Core.Path.{_≡_, refl, ap, _∙_}
+use mathlib.Core.List.{List, [], _∷_, _++_}
+use Prim.Native.Nat.{ℕ}
+use lib.ListN.{length}
+use lib.Seq.{sets}
+use Rattle.text.specs.Line.{line}
+use Rattle.report.specs.Words as R
+use Rattle.warnings.specs.Words as W
+use Rattle.warnings.specs.Answer.{answer}
+use Rattle.contracts.specs.Opened.{logs}
+use Rattle.contracts.specs.Calls.{AnswerMay}
+use Rattle.contracts.specs.Only.{only-answer}
+
+-- Two nodes, and clocks at most 5 apart. Node 1 becomes master and writes, and the switch shuts down 4 after it handled the write; log 1 is the controller's. In which logs are the switch's records,
+-- and the shutdown? (examples/two-logs.log and doubt.log, with a blank before each line.)
+abbrev pub log : ℕ → ℕ → List ℕ
+log switch shutdown =
+    line [] (2 ∷ 5 ∷ [])
+    ++ line [] (1 ∷ 10 ∷ 1 ∷ 1 ∷ [])
+    ++ line [] (1 ∷ 20 ∷ 3 ∷ 1 ∷ [])
+    ++ line [] (switch ∷ 30 ∷ 8 ∷ 1 ∷ [])
+    ++ line [] (1 ∷ 40 ∷ 4 ∷ 1 ∷ [])
+    ++ line [] (switch ∷ 50 ∷ 10 ∷ 1 ∷ [])
+    ++ line [] (1 ∷ 60 ∷ 5 ∷ 1 ∷ [])
+    ++ line [] (1 ∷ 70 ∷ 6 ∷ 1 ∷ [])
+    ++ line [] (switch ∷ 80 ∷ 11 ∷ 1 ∷ [])
+    ++ line [] (shutdown ∷ 84 ∷ 12 ∷ 0 ∷ [])
+
+-- "same"
+abbrev certain : List ℕ
+certain = line R.same []
+
+-- "doubt 9 3 80 11 1 10 4 84 12 0" and "differs 1 1 1 0 0"
+abbrev doubted : List ℕ
+doubted = line W.doubt (9 ∷ 3 ∷ 80 ∷ 11 ∷ 1 ∷ 10 ∷ 4 ∷ 84 ∷ 12 ∷ 0 ∷ []) ++ line R.differs (1 ∷ 1 ∷ 1 ∷ 0 ∷ 0 ∷ [])
+
+is-certain : answer (log 2 2) ≡ certain
+unfolding logs
+is-certain = refl
+
+is-doubted : answer (log 3 4) ≡ doubted
+unfolding logs
+is-doubted = refl
+
+-- The switch has one log.
+pub answer-certain : (buf : List ℕ) (r : ℕ) (after : List ℕ) → AnswerMay (log 2 2, buf) r after → (r ≡ length certain) × (after ≡ sets buf 0 certain)
+answer-certain buf r after m =
+    let o = only-answer (log 2 2, buf) r after m in
+    (o .0 ∙ ap length is-certain, o .1 ∙ ap (sets buf 0) is-certain)
+
+-- The shutdown is in another log.
+pub answer-doubted : (buf : List ℕ) (r : ℕ) (after : List ℕ) → AnswerMay (log 3 4, buf) r after → (r ≡ length doubted) × (after ≡ sets buf 0 doubted)
+answer-doubted buf r after m =
+    let o = only-answer (log 3 4, buf) r after m in
+    (o .0 ∙ ap length is-doubted, o .1 ∙ ap (sets buf 0) is-doubted)
