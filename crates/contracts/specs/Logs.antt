@@ -1,4 +1,4 @@
--- A merged log that tells wrong programs apart: all that the contract of `answer` lets be printed of it. Assumes nothing.
+-- Merged logs that tell wrong programs apart: all that the contract of `answer` lets be printed of them. Assumes nothing.
 use mathlib.Core.Path.{_≡_, refl, ap, _∙_}
 use mathlib.Core.List.{List, [], _∷_, _++_}
 use Prim.Native.Nat.{ℕ}
@@ -54,3 +54,19 @@ pub answer-doubted : (buf : List ℕ) (r : ℕ) (after : List ℕ) → AnswerMay
 answer-doubted buf r after m =
     let o = only-answer (log 3 4, buf) r after m in
     (o .0 ∙ ap length is-doubted, o .1 ∙ ap (sets buf 0) is-doubted)
+
+-- The second line has three numbers: "refused line 2".
+abbrev bad : List ℕ
+bad = line [] (2 ∷ 5 ∷ []) ++ line [] (1 ∷ 10 ∷ 1 ∷ [])
+
+abbrev badLine : List ℕ
+badLine = line W.refusedLine (2 ∷ [])
+
+is-refused : answer bad ≡ badLine
+unfolding logs
+is-refused = refl
+
+pub answer-refused : (buf : List ℕ) (r : ℕ) (after : List ℕ) → AnswerMay (bad, buf) r after → (r ≡ length badLine) × (after ≡ sets buf 0 badLine)
+answer-refused buf r after m =
+    let o = only-answer (bad, buf) r after m in
+    (o .0 ∙ ap length is-refused, o .1 ∙ ap (sets buf 0) is-refused)

@@ -9,6 +9,7 @@ use Rattle.text.specs.Line.{line}
 use Rattle.comparing.specs.declared.Finding.{Finding}
 use Rattle.comparing.specs.Compare as C
 use Rattle.comparing.specs.Compared.{compared}
+use Rattle.audit.specs.Merged.{late, early}
 use Rattle.report.specs.Words as W
 use Rattle.report.specs.Report.{report}
 use Rattle.contracts.specs.Opened.{compares, reports}
@@ -30,7 +31,11 @@ pub learn-send-same : Says (2, 3, 1, 4, 1) false
 unfolding compares
 learn-send-same r m = only-independent (2, 3, 1, 4, 1) r tt m .0
 
--- Receive update 1 and Close 2; Join 1 and a kind that is not known.
+-- Join 1 and Learn 2; Receive update 1 and Close 2; Join 1 and a kind that is not known.
+pub join-learn : Says (2, 1, 1, 3, 2) false
+unfolding compares
+join-learn r m = only-independent (2, 1, 1, 3, 2) r tt m .0
+
 pub receive-close : Says (2, 5, 1, 9, 2) false
 unfolding compares
 receive-close r m = only-independent (2, 5, 1, 9, 2) r tt m .0
@@ -38,6 +43,12 @@ receive-close r m = only-independent (2, 5, 1, 9, 2) r tt m .0
 pub join-unknown : Says (2, 1, 1, 14, 2) false
 unfolding compares
 join-unknown r m = only-independent (2, 1, 1, 14, 2) r tt m .0
+
+-- ---- two merges, of which one has two records of node 2 five places further down
+
+pub compare-same : (r : Finding) → CompareMay (late, early) r tt → r ≡ C.same
+unfolding compares
+compare-same r m = only-compare (late, early) r tt m .0
 
 -- ---- two lists: node 1 is master and has sent a write; then Handle write 1 and Shutdown in either order
 
