@@ -12,8 +12,8 @@ use Rattle.contracts.specs.Opened.{logs}
 use Rattle.contracts.specs.Calls.{AnswerMay}
 use Rattle.contracts.specs.Only.{only-answer}
 
--- Two nodes, and clocks at most 5 apart. Node 1 becomes master and writes, and the switch shuts down 4 after it handled the write; log 1 is the controller's. In which logs are the switch's records,
--- and the shutdown? (examples/two-logs.log and doubt.log, with a blank before each line.)
+-- Two nodes, and clocks at most 5 apart. Node 1 becomes master and writes; it learns nothing, 2 after the switch handled the write, and the switch shuts down, 4 after it. Log 1 is the controller's; in
+-- which logs are the switch's records, and the shutdown?
 abbrev pub log : ℕ → ℕ → List ℕ
 log switch shutdown =
     line [] (2 ∷ 5 ∷ [])
@@ -25,15 +25,16 @@ log switch shutdown =
     ++ line [] (1 ∷ 60 ∷ 5 ∷ 1 ∷ [])
     ++ line [] (1 ∷ 70 ∷ 6 ∷ 1 ∷ [])
     ++ line [] (switch ∷ 80 ∷ 11 ∷ 1 ∷ [])
+    ++ line [] (1 ∷ 82 ∷ 3 ∷ 1 ∷ [])
     ++ line [] (shutdown ∷ 84 ∷ 12 ∷ 0 ∷ [])
 
 -- "same"
 abbrev certain : List ℕ
 certain = line R.same []
 
--- "doubt 9 3 80 11 1 10 4 84 12 0" and "differs 1 1 1 0 0"
+-- "doubt 9 3 80 11 1 11 4 84 12 0" and "differs 1 1 1 0 0"
 abbrev doubted : List ℕ
-doubted = line W.doubt (9 ∷ 3 ∷ 80 ∷ 11 ∷ 1 ∷ 10 ∷ 4 ∷ 84 ∷ 12 ∷ 0 ∷ []) ++ line R.differs (1 ∷ 1 ∷ 1 ∷ 0 ∷ 0 ∷ [])
+doubted = line W.doubt (9 ∷ 3 ∷ 80 ∷ 11 ∷ 1 ∷ 11 ∷ 4 ∷ 84 ∷ 12 ∷ 0 ∷ []) ++ line R.differs (1 ∷ 1 ∷ 1 ∷ 0 ∷ 0 ∷ [])
 
 is-certain : answer (log 2 2) ≡ certain
 unfolding logs

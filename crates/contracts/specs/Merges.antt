@@ -100,3 +100,20 @@ pub report-order : (buf : List ℕ) (r : ℕ) (after : List ℕ) → ReportMay (
 report-order buf r after m =
     let o = only-report (handled, stopped, buf) r after m in
     (o .0 ∙ ap length order-reported, o .1 ∙ ap (sets buf 0) order-reported)
+
+-- Two lists in which a node is elected and writes: node 1 in the first, node 2 in the second.
+abbrev writes : ℕ → List ℕ
+writes n = 1 ∷ n ∷ 3 ∷ n ∷ 8 ∷ n ∷ 4 ∷ n ∷ 10 ∷ n ∷ 5 ∷ n ∷ 6 ∷ n ∷ 11 ∷ n ∷ trailer 8
+
+-- "only first 1", "writes 1 1" and "differs 1 1 1 2 1"
+abbrev reportedOther : List ℕ
+reportedOther = line W.onlyFirst (1 ∷ []) ++ (line W.writes (1 ∷ 1 ∷ []) ++ line W.differs (1 ∷ 1 ∷ 1 ∷ 2 ∷ 1 ∷ []))
+
+other-reported : report (writes 1) (writes 2) ≡ reportedOther
+unfolding reports
+other-reported = refl
+
+pub report-other : (buf : List ℕ) (r : ℕ) (after : List ℕ) → ReportMay (writes 1, writes 2, buf) r after → (r ≡ length reportedOther) × (after ≡ sets buf 0 reportedOther)
+report-other buf r after m =
+    let o = only-report (writes 1, writes 2, buf) r after m in
+    (o .0 ∙ ap length other-reported, o .1 ∙ ap (sets buf 0) other-reported)

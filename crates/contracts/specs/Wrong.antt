@@ -1,9 +1,10 @@
--- The five wrong programs that the scope names. Each is shut out by a contract: no program that meets it is one of them. Assumes nothing.
+-- The five wrong programs that the scope names. Each is shut out by a contract: no program that meets it is one of them. The right program is not shut out. Assumes nothing.
 use mathlib.Core.Path.{_≡_, refl, sym, ap, _∙_}
 use mathlib.Core.Logic.{_≢_}
 use mathlib.Core.List.{List, [], _∷_}
 use Prim.Native.Nat.{ℕ, _+_, _≤_, _<_}
 use native.Mathlib.Omega.{arith}
+use denote.Ref.{RefT}
 use lib.Dec.{T}
 use lib.ListN.{length, getD, replicate}
 use Rattle.rules.specs.State as S
@@ -17,7 +18,7 @@ use Rattle.state.specs.Hold.{represent}
 use Rattle.state.specs.declared.State.{State}
 use Rattle.bridge.specs.Held.{hold-represent}
 use Rattle.bridge.specs.Passes.{fits-represent}
-use Rattle.stepper.specs.Public.{reported}
+use Rattle.stepper.specs.Public.{stepped, reported}
 use Rattle.stepper.specs.declared.Stepped.{Stepped}
 use Rattle.stepper.specs.declared.Report.{Report}
 use Rattle.lists.specs.EventList.{recordCount}
@@ -36,6 +37,10 @@ Stepper = State → ℕ → ℕ → Stepped
 -- It meets the contract of `step`.
 abbrev pub Steps : Stepper → Type 0
 Steps f = (s : State) (kind node : ℕ) → StepMay (s, kind, node) (f s kind node) tt
+
+-- The right one does.
+pub right-steps : Steps stepped
+right-steps s kind node = record { lifetimes = tt; arguments = (s, (kind, (node, tt))); exit = (s, (kind, (node, tt))); is-given = refl; leaves = refl; met = refl }
 
 -- 1: it refuses all.
 abbrev pub RefusesAll : Stepper → Type 0
@@ -95,6 +100,21 @@ Runner = List ℕ → List ℕ → Ran
 abbrev pub Runs : Runner → Type 0
 Runs f = (list out : List ℕ) → RunMay (list, out) (f list out .returned) (f list out .out)
 
+-- Bytes that are lent, wherever they stand.
+abbrev bytes : List ℕ → RefT (List ℕ)
+bytes l = record { ptr = (0, 0); name = 0; now = l }
+
+-- The right one does.
+pub right-runs : Runs ran
+right-runs list out = record {
+  lifetimes = ([], ([], tt));
+  arguments = (bytes list, (bytes out, tt));
+  exit = (bytes list, (bytes (ran list out .out), tt));
+  is-given = refl;
+  leaves = refl;
+  met = (refl, refl);
+}
+
 -- 4: whatever the first record is answered, the others are answered 0.
 abbrev pub ZeroForTheRest : Runner → Type 0
 ZeroForTheRest f = (list out : List ℕ) → runRefusal list out ≡ 0 → (i : ℕ) → 1 ≤ i → i < recordCount list → getD (f list out .out) i 0 ≡ 0
@@ -135,6 +155,10 @@ Reporter = State → Report
 -- It meets the contract of `open_streams`.
 abbrev pub Reports : Reporter → Type 0
 Reports f = (s : State) → OpenStreamsMay s (f s) tt
+
+-- The right one does.
+pub right-reports : Reports reported
+right-reports s = record { lifetimes = tt; arguments = (s, tt); exit = (s, tt); is-given = refl; leaves = refl; met = refl }
 
 -- 5: for some state in range, the count is not the number of open streams.
 abbrev pub MakesUpStreams : Reporter → Type 0
