@@ -17,9 +17,13 @@ module _ {L G R H : Type 0} {A E : L → Type 0} (post : (κs : L) → A κs →
 abbrev pub One : {G R H : Type 0} → (G → R → H → Type 0) → Type 0
 One {G} {R} {H} may = (g : G) (r q : R) (h k : H) → may g r h → may g q k → (r ≡ q) × (h ≡ k)
 
--- The only answer to g is f g, and all that is left is b g.
+-- The only answer to g is r, and all that is left is h.
+abbrev pub Gives : {G R H : Type 0} → (G → R → H → Type 0) → G → R → H → Type 0
+Gives {G} {R} {H} may g r h = (q : R) (k : H) → may g q k → (q ≡ r) × (k ≡ h)
+
+-- To every g, f g is the only answer, and b g is left.
 abbrev pub Only : {G R H : Type 0} → (G → R → H → Type 0) → (G → R) → (G → H) → Type 0
-Only {G} {R} {H} may f b = (g : G) (r : R) (h : H) → may g r h → (r ≡ f g) × (h ≡ b g)
+Only {G} may f b = (g : G) → Gives may g (f g) (b g)
 
 module _ {G R H : Type 0} (f : G → R) (b : G → H) where
   pub one : (may : G → R → H → Type 0) → Only may f b → One may

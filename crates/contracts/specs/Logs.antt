@@ -1,16 +1,14 @@
 -- Merged logs that tell wrong programs apart: all that the contract of `answer` lets be printed of them. Assumes nothing.
-use mathlib.Core.Path.{_≡_, refl, ap, _∙_}
+use mathlib.Core.Path.{_≡_, refl}
 use mathlib.Core.List.{List, [], _∷_, _++_}
 use Prim.Native.Nat.{ℕ}
-use lib.ListN.{length}
-use lib.Seq.{sets}
 use Rattle.text.specs.Line.{line}
 use Rattle.report.specs.Words as R
 use Rattle.warnings.specs.Words as W
 use Rattle.warnings.specs.Answer.{answer}
 use Rattle.contracts.specs.Opened.{logs}
 use Rattle.contracts.specs.Calls.{AnswerMay}
-use Rattle.contracts.specs.Only.{only-answer}
+use Rattle.contracts.specs.Only.{Puts, puts, only-answer}
 
 -- Two nodes, and clocks at most 5 apart. Node 1 becomes master and writes; it learns nothing, 2 after the switch handled the write, and the switch shuts down, 4 after it. Log 1 is the controller's; in
 -- which logs are the switch's records, and the shutdown?
@@ -45,16 +43,12 @@ unfolding logs
 is-doubted = refl
 
 -- The switch has one log.
-pub answer-certain : (buf : List ℕ) (r : ℕ) (after : List ℕ) → AnswerMay (log 2 2, buf) r after → (r ≡ length certain) × (after ≡ sets buf 0 certain)
-answer-certain buf r after m =
-    let o = only-answer (log 2 2, buf) r after m in
-    (o .0 ∙ ap length is-certain, o .1 ∙ ap (sets buf 0) is-certain)
+pub answer-certain : (buf : List ℕ) → Puts AnswerMay (log 2 2, buf) certain buf
+answer-certain buf = puts AnswerMay (log 2 2, buf) buf is-certain (only-answer (log 2 2, buf))
 
 -- The shutdown is in another log.
-pub answer-doubted : (buf : List ℕ) (r : ℕ) (after : List ℕ) → AnswerMay (log 3 4, buf) r after → (r ≡ length doubted) × (after ≡ sets buf 0 doubted)
-answer-doubted buf r after m =
-    let o = only-answer (log 3 4, buf) r after m in
-    (o .0 ∙ ap length is-doubted, o .1 ∙ ap (sets buf 0) is-doubted)
+pub answer-doubted : (buf : List ℕ) → Puts AnswerMay (log 3 4, buf) doubted buf
+answer-doubted buf = puts AnswerMay (log 3 4, buf) buf is-doubted (only-answer (log 3 4, buf))
 
 -- The second line has three numbers: "refused line 2".
 abbrev bad : List ℕ
@@ -67,7 +61,5 @@ is-refused : answer bad ≡ badLine
 unfolding logs
 is-refused = refl
 
-pub answer-refused : (buf : List ℕ) (r : ℕ) (after : List ℕ) → AnswerMay (bad, buf) r after → (r ≡ length badLine) × (after ≡ sets buf 0 badLine)
-answer-refused buf r after m =
-    let o = only-answer (bad, buf) r after m in
-    (o .0 ∙ ap length is-refused, o .1 ∙ ap (sets buf 0) is-refused)
+pub answer-refused : (buf : List ℕ) → Puts AnswerMay (bad, buf) badLine buf
+answer-refused buf = puts AnswerMay (bad, buf) buf is-refused (only-answer (bad, buf))
