@@ -1,0 +1,101 @@
+-- The calls of the public functions: what each is given, and what it may return and leave by its contract. Where nothing is lent by `&mut`, nothing is left: `tt`.
+use mathlib.Core.Bool.{Bool}
+use mathlib.Core.List.{List}
+use Prim.Native.Nat.{ℕ}
+use denote.Ref.{now}
+use Rattle.state.specs.declared.State.{State}
+use Rattle.stepper.specs.declared.Stepped.{Stepped}
+use Rattle.stepper.specs.declared.Report.{Report}
+use Rattle.update.specs.declared.Arbitration.{Arbitration}
+use Rattle.comparing.specs.declared.Finding.{Finding}
+use Rattle.stepper.proofs.fresh.Reads as Fresh
+use Rattle.stepper.proofs.step.Reads as Step
+use Rattle.stepper.proofs.open_streams.Reads as OpenStreams
+use Rattle.ranges.proofs.in_range.Reads as InRange
+use Rattle.independence.proofs.independent.Reads as Independent
+use Rattle.runner.proofs.run.Reads as Run
+use Rattle.transcript.proofs.transcript.Reads as Transcript
+use Rattle.comparing.proofs.compare.Reads as Compare
+use Rattle.merging.proofs.same_merge.Reads as SameMerge
+use Rattle.report.proofs.report.Reads as Reports
+use Rattle.warnings.proofs.answer.Reads as Answer
+use Rattle.update.proofs.read.Reads as Read
+use Rattle.packed.proofs.read_into.Reads as ReadInto
+use Rattle.printout.proofs.printout.Reads as Printout
+use Rattle.hoefspanker.proofs.hoefspanker_run.Reads as HostRun
+use Rattle.hoefspanker.proofs.hoefspanker_same_merge.Reads as HostSameMerge
+use Rattle.hoefspanker.proofs.hoefspanker_read_arbitration.Reads as HostReadArbitration
+use Rattle.contracts.specs.Contract.{May}
+
+-- ---- a state
+
+-- fresh(nodes)
+abbrev pub FreshMay : ℕ → Stepped → Unit {0} → Type 0
+FreshMay = May Fresh.Post (λ κs a. a .0) (λ κs e. tt)
+
+-- step(state, kind, node)
+abbrev pub StepMay : State × ℕ × ℕ → Stepped → Unit {0} → Type 0
+StepMay = May Step.Post (λ κs a. (a .0, a .1 .0, a .1 .1 .0)) (λ κs e. tt)
+
+-- open_streams(state)
+abbrev pub OpenStreamsMay : State → Report → Unit {0} → Type 0
+OpenStreamsMay = May OpenStreams.Post (λ κs a. a .0) (λ κs e. tt)
+
+-- in_range(state)
+abbrev pub InRangeMay : State → Bool → Unit {0} → Type 0
+InRangeMay = May InRange.Post (λ κs a. a .0) (λ κs e. tt)
+
+-- independent(nodes, kind_a, node_a, kind_b, node_b)
+abbrev pub IndependentMay : ℕ × ℕ × ℕ × ℕ × ℕ → Bool → Unit {0} → Type 0
+IndependentMay = May Independent.Post (λ κs a. (a .0, a .1 .0, a .1 .1 .0, a .1 .1 .1 .0, a .1 .1 .1 .1 .0)) (λ κs e. tt)
+
+-- ---- a list
+
+-- run(list, out): the bytes of both; then those of the buffer
+abbrev pub RunMay : List ℕ × List ℕ → ℕ → List ℕ → Type 0
+RunMay = May Run.Post (λ κs a. (now (a .0), now (a .1 .0))) (λ κs e. now (e .1 .0))
+
+abbrev pub HostRunMay : List ℕ × List ℕ → ℕ → List ℕ → Type 0
+HostRunMay = May HostRun.Post (λ κs a. (now (a .0), now (a .1 .0))) (λ κs e. now (e .1 .0))
+
+-- transcript(list, buf)
+abbrev pub TranscriptMay : List ℕ × List ℕ → ℕ → List ℕ → Type 0
+TranscriptMay = May Transcript.Post (λ κs a. (now (a .0), now (a .1 .0))) (λ κs e. now (e .1 .0))
+
+-- ---- two merges, and a log
+
+-- compare(first, second)
+abbrev pub CompareMay : List ℕ × List ℕ → Finding → Unit {0} → Type 0
+CompareMay = May Compare.Post (λ κs a. (now (a .0), now (a .1 .0))) (λ κs e. tt)
+
+-- same_merge(first, second, places)
+abbrev pub SameMergeMay : List ℕ × List ℕ × List ℕ → ℕ → List ℕ → Type 0
+SameMergeMay = May SameMerge.Post (λ κs a. (now (a .0), now (a .1 .0), now (a .1 .1 .0))) (λ κs e. now (e .1 .1 .0))
+
+abbrev pub HostSameMergeMay : List ℕ × List ℕ × List ℕ → ℕ → List ℕ → Type 0
+HostSameMergeMay = May HostSameMerge.Post (λ κs a. (now (a .0), now (a .1 .0), now (a .1 .1 .0))) (λ κs e. now (e .1 .1 .0))
+
+-- report(first, second, buf)
+abbrev pub ReportMay : List ℕ × List ℕ × List ℕ → ℕ → List ℕ → Type 0
+ReportMay = May Reports.Post (λ κs a. (now (a .0), now (a .1 .0), now (a .1 .1 .0))) (λ κs e. now (e .1 .1 .0))
+
+-- answer(log, buf)
+abbrev pub AnswerMay : List ℕ × List ℕ → ℕ → List ℕ → Type 0
+AnswerMay = May Answer.Post (λ κs a. (now (a .0), now (a .1 .0))) (λ κs e. now (e .1 .0))
+
+-- ---- an arbitration message
+
+-- read(message)
+abbrev pub ReadMay : List ℕ → Arbitration → Unit {0} → Type 0
+ReadMay = May Read.Post (λ κs a. now (a .0)) (λ κs e. tt)
+
+-- read_into(message, fields)
+abbrev pub ReadIntoMay : List ℕ × List ℕ → ℕ → List ℕ → Type 0
+ReadIntoMay = May ReadInto.Post (λ κs a. (now (a .0), now (a .1 .0))) (λ κs e. now (e .1 .0))
+
+abbrev pub HostReadArbitrationMay : List ℕ × List ℕ → ℕ → List ℕ → Type 0
+HostReadArbitrationMay = May HostReadArbitration.Post (λ κs a. (now (a .0), now (a .1 .0))) (λ κs e. now (e .1 .0))
+
+-- printout(message, buf)
+abbrev pub PrintoutMay : List ℕ × List ℕ → ℕ → List ℕ → Type 0
+PrintoutMay = May Printout.Post (λ κs a. (now (a .0), now (a .1 .0))) (λ κs e. now (e .1 .0))
