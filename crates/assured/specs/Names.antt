@@ -12,7 +12,7 @@ use Rattle.rules.specs.Step.{Event}
 use Rattle.laws.specs.InRange.{All}
 use Rattle.merges.specs.Independent.{independent}
 use Rattle.seqs.specs.Tables.{table}
-use Rattle.lists.specs.EventList.{nodeCount, recordCount, recordAt}
+use Rattle.lists.specs.EventList.{nodeCount, recordCount, recordAt, records}
 use Rattle.verdict.specs.Verdict.{Pulled, taken, blocked, missing, met, pull, sameEvent}
 use Rattle.verdict.specs.Pairs.{kept, only}
 use Rattle.verdict.specs.Kept.{not-nil}
@@ -23,7 +23,7 @@ use Rattle.places.specs.Places.{from, found, seek}
 use Rattle.comparing.specs.Compare.{order, free, equal, obstacle, looked, compare}
 use Rattle.comparing.specs.Refusing.{both-good}
 use Rattle.comparing.specs.Left.{nowhere}
-use Rattle.assured.specs.Assured.{times, OrderNames}
+use Rattle.assured.specs.Assured.{times, Crossed, OrderNames}
 use Rattle.assured.specs.Times.{times-next, same-sym}
 use Rattle.assured.specs.Meaning.{verdict-of, comparable, all-places}
 
@@ -285,83 +285,80 @@ module _ (count : ℕ) (here there : ℕ → Event) where
             let w = ap bit (same-sym (here a) (there s) j) in
             ((let z = u .0 in omega arith), u .1, (let z = u .2 in omega arith))
 
-    -- The same of any records.
-    record Places (p p′ : ℕ) : Type 0 where
-      in-first : p < n
-      in-second : p′ < m
-      alike : here p ≡ there p′
-      occurs : times (here p) (take p (table n here)) ≡ times (there p′) (take p′ (table m there))
+-- ---- two lists
 
-    record Crosses (a b a′ b′ : ℕ) : Type 0 where
-      stands-a : Places a a′
-      stands-b : Places b b′
-      dependent : independent count (here a) (here b) ≡ false
-      before : a < b
-      behind : b′ < a′
+module _ (first second : List ℕ) where
+  abbrev count : ℕ
+  count = nodeCount first
 
-    -- Record p is blocked by s; it stands at r in the second list, and s stands at f in the first.
-    crossing : (p k : ℕ) (qs : List ℕ) → p + suc k ≡ n → Rising qs → Left p qs → (s : ℕ) → looking p qs ≡ blocked s
-        → (r : ℕ) → seek (equal count here there p) qs ≡ some r → (f : ℕ) → seek (λ x. equal count here there x s) (from (suc p) k) ≡ some f → Crosses p f r s
-    crossing p k qs h u left s e r i f j =
-        let b = blocks (free count here there p) (equal count here there p) (own p) s qs u e in
-        let is = alike f s (sought-test (λ x. equal count here there x s) (from (suc p) k) f j) in
-        let at = alike p r (sought-test (equal count here there p) qs r i) in
-        let x = next-left p qs left (here p) r i in
-        let y = next-left p qs left (there s) s (first-left p s (b .stops) qs e) in
-        let z = next-ahead s k (suc p) f (omega arith) j in
-        let one = times-next (there s) n here p (omega arith) in
-        let none = ap bit (same-sym (here p) (there s) (b .other)) in
-        record {
-          stands-a = record { in-first = omega arith; in-second = x .0; alike = at; occurs = x .1 ∙ ap (λ (q : Event). times q (take r (table m there))) at };
-          stands-b = record {
-            in-first = z .1;
-            in-second = y .0;
-            alike = is;
-            occurs = ap (λ (q : Event). times q (take f (table n here))) is ∙ (let z2 = z .2 in let y1 = y .1 in omega arith);
-          };
-          dependent = ap (independent count (here p)) is ∙ b .stops;
-          before = let z0 = z .0 in omega arith;
-          behind = b .before r i;
-        }
+  abbrev here : ℕ → Event
+  here = recordAt first
 
-    module _ (a b a′ b′ : ℕ) where
-      crossed-in : (p k : ℕ) (qs : List ℕ) → p + suc k ≡ n → Rising qs → Left p qs → (s : ℕ) → looking p qs ≡ blocked s
-          → (o : Option ℕ) → seek (equal count here there p) qs ≡ o → (o′ : Option ℕ) → seek (λ x. equal count here there x s) (from (suc p) k) ≡ o′
-          → obstacle count here there p s o o′ ≡ order a b a′ b′ → Crosses a b a′ b′
-      crossed-in p k qs h u left s e none i o′ j g = let z = verdict-of g in absurd (omega arith)
-      crossed-in p k qs h u left s e (some r) i none j g = let z = verdict-of g in absurd (omega arith)
-      crossed-in p k qs h u left s e (some r) i (some f) j g =
-          let x : p ≡ a = (let z = ap (λ (f : Finding). f .p) g in omega arith) in
-          let y : f ≡ b = (let z = ap (λ (f : Finding). f .q) g in omega arith) in
-          let z : r ≡ a′ = (let z = ap (λ (f : Finding). f .r) g in omega arith) in
-          let w : s ≡ b′ = (let z = ap (λ (f : Finding). f .s) g in omega arith) in
-          rw (← x, ← y, ← z, ← w) (crossing p k qs h u left s e r i f j)
+  abbrev there : ℕ → Event
+  there = recordAt second
 
-      names : (k p : ℕ) (qs : List ℕ) → p + k ≡ n → Rising qs → Left p qs → compare count here there (from p k) qs ≡ order a b a′ b′ → Crosses a b a′ b′
-      unfolding compare
-      names zero p [] h u left e = let z = verdict-of e in absurd (omega arith)
-      names zero p (q ∷ qs) h u left e = let z = verdict-of e in absurd (omega arith)
-      names (suc k) p qs h u left e = go (looking p qs) refl (names k (suc p)) e
-        where
-          go : (o : Pulled ℕ) → looking p qs ≡ o
-              → ((rest : List ℕ) → suc p + k ≡ n → Rising rest → Left (suc p) rest → compare count here there (from (suc p) k) rest ≡ order a b a′ b′ → Crosses a b a′ b′)
-              → looked count here there (compare count here there (from (suc p) k)) p (from (suc p) k) qs o ≡ order a b a′ b′ → Crosses a b a′ b′
-          go (taken rest) i f g = f rest (omega arith) (left-rising (free count here there p) (equal count here there p) qs rest u i) (left-next p qs rest (omega arith) left i) g
-          go (blocked s) i f g = crossed-in p k qs h u left s i (seek (equal count here there p) qs) refl (seek (λ x. equal count here there x s) (from (suc p) k)) refl g
-          go missing i f g = let z = verdict-of g in absurd (omega arith)
+  abbrev n : ℕ
+  n = recordCount first
+
+  abbrev m : ℕ
+  m = recordCount second
+
+  abbrev LeftBehind : ℕ → List ℕ → Type 0
+  LeftBehind = Left count here there n m
+
+  -- Record p is blocked by s; it stands at r in the second list, and s stands at f in the first.
+  crossing : (p k : ℕ) (qs : List ℕ) → p + suc k ≡ n → Rising qs → LeftBehind p qs → (s : ℕ) → looking count here there p qs ≡ blocked s
+      → (r : ℕ) → seek (equal count here there p) qs ≡ some r → (f : ℕ) → seek (λ x. equal count here there x s) (from (suc p) k) ≡ some f → Crossed first second p f r s
+  crossing p k qs h u left s e r i f j =
+      let b = blocks (free count here there p) (equal count here there p) (own count here there p) s qs u e in
+      let is = alike count here there f s (sought-test (λ x. equal count here there x s) (from (suc p) k) f j) in
+      let at = alike count here there p r (sought-test (equal count here there p) qs r i) in
+      let x = next-left count here there n m p qs left (here p) r i in
+      let y = next-left count here there n m p qs left (there s) s (first-left count here there p s (b .stops) qs e) in
+      let z = next-ahead count here there n m s k (suc p) f (omega arith) j in
+      let one = times-next (there s) n here p (omega arith) in
+      let none = ap bit (same-sym (here p) (there s) (b .other)) in
+      record {
+        stands-a = record { in-first = omega arith; in-second = x .0; alike = at; occurs = x .1 ∙ ap (λ (q : Event). times q (take r (records second))) at };
+        stands-b = record {
+          in-first = z .1;
+          in-second = y .0;
+          alike = is;
+          occurs = ap (λ (q : Event). times q (take f (records first))) is ∙ (let z2 = z .2 in let y1 = y .1 in omega arith);
+        };
+        dependent = ap (independent count (here p)) is ∙ b .stops;
+        before = let z0 = z .0 in omega arith;
+        behind = b .before r i;
+      }
+
+  module _ (a b a′ b′ : ℕ) where
+    crossed-in : (p k : ℕ) (qs : List ℕ) → p + suc k ≡ n → Rising qs → LeftBehind p qs → (s : ℕ) → looking count here there p qs ≡ blocked s
+        → (o : Option ℕ) → seek (equal count here there p) qs ≡ o → (o′ : Option ℕ) → seek (λ x. equal count here there x s) (from (suc p) k) ≡ o′
+        → obstacle count here there p s o o′ ≡ order a b a′ b′ → Crossed first second a b a′ b′
+    crossed-in p k qs h u left s e none i o′ j g = let z = verdict-of g in absurd (omega arith)
+    crossed-in p k qs h u left s e (some r) i none j g = let z = verdict-of g in absurd (omega arith)
+    crossed-in p k qs h u left s e (some r) i (some f) j g =
+        let x : p ≡ a = (let z = ap (λ (f : Finding). f .p) g in omega arith) in
+        let y : f ≡ b = (let z = ap (λ (f : Finding). f .q) g in omega arith) in
+        let z : r ≡ a′ = (let z = ap (λ (f : Finding). f .r) g in omega arith) in
+        let w : s ≡ b′ = (let z = ap (λ (f : Finding). f .s) g in omega arith) in
+        rw (← x, ← y, ← z, ← w) (crossing p k qs h u left s e r i f j)
+
+    names : (k p : ℕ) (qs : List ℕ) → p + k ≡ n → Rising qs → LeftBehind p qs → compare count here there (from p k) qs ≡ order a b a′ b′ → Crossed first second a b a′ b′
+    unfolding compare
+    names zero p [] h u left e = let z = verdict-of e in absurd (omega arith)
+    names zero p (q ∷ qs) h u left e = let z = verdict-of e in absurd (omega arith)
+    names (suc k) p qs h u left e = go (looking count here there p qs) refl (names k (suc p)) e
+      where
+        go : (o : Pulled ℕ) → looking count here there p qs ≡ o
+            → ((rest : List ℕ) → suc p + k ≡ n → Rising rest → LeftBehind (suc p) rest → compare count here there (from (suc p) k) rest ≡ order a b a′ b′ → Crossed first second a b a′ b′)
+            → looked count here there (compare count here there (from (suc p) k)) p (from (suc p) k) qs o ≡ order a b a′ b′ → Crossed first second a b a′ b′
+        go (taken rest) i f g = f rest (omega arith) (left-rising (free count here there p) (equal count here there p) qs rest u i) (left-next count here there n m p qs rest (omega arith) left i) g
+        go (blocked s) i f g = crossed-in p k qs h u left s i (seek (equal count here there p) qs) refl (seek (λ x. equal count here there x s) (from (suc p) k)) refl g
+        go missing i f g = let z = verdict-of g in absurd (omega arith)
 
 pub order-names : OrderNames
 order-names first second a b a′ b′ e =
     let c = comparable first second (let z = verdict-of e in omega arith) in
-    let i = sym (both-good first second (c .one) (c .other) (c .nodes)) ∙ e in
-    let x = names (nodeCount first) (recordAt first) (recordAt second) (recordCount first) (recordCount second) a b a′ b′ (recordCount first) 0 (from 0 (recordCount second))
-    (omega arith) (from-rising 0 (recordCount second)) (λ e. refl) i in
-    let at = x .stands-a in
-    let bt = x .stands-b in
-    record {
-      stands-a = record { in-first = at .in-first; in-second = at .in-second; alike = at .alike; occurs = at .occurs };
-      stands-b = record { in-first = bt .in-first; in-second = bt .in-second; alike = bt .alike; occurs = bt .occurs };
-      dependent = x .dependent;
-      before = x .before;
-      behind = x .behind;
-    }
+    names first second a b a′ b′ (recordCount first) 0 (from 0 (recordCount second)) (omega arith) (from-rising 0 (recordCount second)) (λ e. refl)
+    (sym (both-good first second (c .one) (c .other) (c .nodes)) ∙ e)
