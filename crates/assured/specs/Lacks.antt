@@ -5,12 +5,9 @@ use mathlib.Core.Option.{Option, none, some}
 use mathlib.Core.List.{List, [], _∷_, map}
 use Prim.Native.Nat.{ℕ, _+_, _≤_, _<_}
 use native.Mathlib.Omega.{arith}
-use lib.ListN.{length}
 use Rattle.rules.specs.Step.{Event}
 use Rattle.lists.specs.EventList.{nodeCount, recordCount, recordAt, records}
 use Rattle.verdict.specs.Verdict.{Pulled, taken, blocked, missing, met, pull, sameEvent}
-use Rattle.verdict.specs.Pairs.{kept, only}
-use Rattle.verdict.specs.Steps.{same-eq, same-refl}
 use Rattle.letters.specs.Letters.{bit}
 use Rattle.comparing.specs.declared.Finding.{Finding}
 use Rattle.places.specs.Places.{from, found, seek}
@@ -19,27 +16,11 @@ use Rattle.comparing.specs.Compared.{comparison, compared}
 use Rattle.comparing.specs.Refusing.{both-good}
 use Rattle.comparing.specs.Left.{nowhere}
 use Rattle.assured.specs.Assured.{times, OnlyNames}
+use Rattle.assured.specs.Times.{times-more, times-head, same-sym}
 use Rattle.assured.specs.Meaning.{verdict-of, comparable, all-places}
 use Rattle.assured.specs.Names.{never, lost, absent, alike, own}
 
--- ---- how often
-
-times-more : (e x : Event) (l : List Event) → times e (x ∷ l) ≡ bit (sameEvent e x) + times e l
-times-more e x l = go (sameEvent e x)
-  where
-    go : (b : Bool) → length (kept b x (only (sameEvent e) l)) ≡ bit b + length (only (sameEvent e) l)
-    go true = omega arith
-    go false = omega arith
-
-times-head : (e : Event) (l : List Event) → times e (e ∷ l) ≡ 1 + times e l
-times-head e l = times-more e e l ∙ ap (λ (b : Bool). bit b + times e l) (same-refl e)
-
-same-sym : (e f : Event) → sameEvent e f ≡ false → sameEvent f e ≡ false
-same-sym e f h = go (sameEvent f e) refl
-  where
-    go : (b : Bool) → sameEvent f e ≡ b → sameEvent f e ≡ false
-    go true i = absurd (true≢false (sym (same-refl e) ∙ ap (sameEvent e) (sym (same-eq f e (rw i tt))) ∙ h))
-    go false i = i
+-- ---- what is not there
 
 -- What a search does not find does not occur.
 times-none : (e : Event) (f : ℕ → Event) (test : ℕ → Bool) → ((x : ℕ) → test x ≡ false → sameEvent e (f x) ≡ false) → (l : List ℕ) → seek test l ≡ none → times e (map f l) ≡ 0

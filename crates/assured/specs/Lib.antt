@@ -1,7 +1,10 @@
 -- Believed: Assured.
 -- Laws: Meaning, Names, Lacks, Sample.
 pub mod Assured
+pub mod Times
+pub mod Keeps
 pub mod Meaning
 pub mod Names
 pub mod Lacks
+pub mod Uncrossed
 pub mod Sample

@@ -9,12 +9,16 @@ use native.Mathlib.Nat.{add-zero, zero-add, suc-add, add-suc}
 use native.Mathlib.Omega.{arith}
 use native.Mathlib.Decide.{ℕ-discrete}
 use lib.Dec.{T}
+use lib.ListN.{length}
 use Rattle.rules.specs.Codes.{badLength, badMark, badNodeCount, badExtent}
 use Rattle.rules.specs.Step.{Event}
 use Rattle.merges.specs.Independent.{independent}
 use Rattle.seqs.specs.Arrays.{table}
 use Rattle.seqs.specs.Tables.{table-ext}
 use Rattle.lists.specs.EventList.{nodeCount, recordCount, recordAt, records, need, lengthFits, trailerFits, nodesFit, sumFits, refusal}
+use Rattle.lists.specs.Good.{records-length}
+use Rattle.runner.specs.Refusing.{ran-short}
+use Rattle.audit.specs.Exchanges.{swaps-length}
 use Rattle.audit.specs.Audit.{audit}
 use Rattle.verdict.specs.Verdict.{Exchanges, Pulled, taken, blocked, missing, met, pull, whenTaken, exchangeable, sameEvent, Independent, sameMerge}
 use Rattle.verdict.specs.Exact.{exact}
@@ -23,7 +27,8 @@ use Rattle.places.specs.Places.{from, seek}
 use Rattle.comparing.specs.Compare.{same, free, equal, obstacle, looked, compare}
 use Rattle.comparing.specs.Compared.{ofSecond, nodesDiffer, refused, comparison, compared}
 use Rattle.comparing.specs.Refusing.{first-refused, second-refused, nodes-differ, both-good}
-use Rattle.assured.specs.Assured.{Merges, SameMeans, SameAssures}
+use Rattle.assured.specs.Assured.{Merges, SameMeans, Assured, SameAssures, SameShort}
+use Rattle.assured.specs.Keeps.{keeps}
 
 -- ---- looking among places is looking among what stands there
 
@@ -145,4 +150,22 @@ same-means first second = (there, back)
         both-good first second (r .accepted) (r .accepted′) (sym (r .nodes)) ∙ on-records first second .1 (exact (nodeCount first) (records first) (records second) .1 x)
 
 pub same-assures : SameAssures
-same-assures first second out e h = let m = same-means first second .0 e in record { places = m .places; run = audit first second (m .places) out (m .remerged) h }
+same-assures first second out room = (there, λ a. same-means first second .1 (record { places = a .places; remerged = a .remerged }))
+  where
+    there : compared first second ≡ same → Assured first second out
+    there e =
+        let m = same-means first second .0 e in
+        let r = audit first second (m .places) out (m .remerged) room in
+        record { places = m .places; remerged = m .remerged; run = r; answers = keeps first second (m .places) out (m .remerged) r room }
+
+-- Lists that are the same have as many records.
+same-size : (first second : List ℕ) → compared first second ≡ same → recordCount second ≡ recordCount first
+same-size first second e =
+    let m = same-means first second .0 e in
+    sym (records-length second) ∙ ap length (m .remerged .exchanged) ∙ swaps-length (m .places) (records first) ∙ records-length first
+
+pub same-short : SameShort
+same-short first second out short e =
+    let c = comparable first second (let z = verdict-of e in omega arith) in
+    let n = same-size first second e in
+    (ran-short first out (c .one) short, ran-short second out (c .other) (omega arith))

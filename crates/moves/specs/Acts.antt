@@ -57,6 +57,7 @@ module _ {R W : Type 0} (p : Part S.State R W) (r : Rule R W) (n : ℕ) (b : Bod
         code = answer ∙ sym (answered p s r);
         body = sym (ready .same) ∙ sym (ap bodyOf same);
         history-grows = ap (λ (t : S.State). t .history) same ∙ sym (append-nil history);
+        no-term = λ i. refl;
       }
 
   -- The rule does not allow the step.
@@ -64,13 +65,14 @@ module _ {R W : Type 0} (p : Part S.State R W) (r : Rule R W) (n : ℕ) (b : Bod
   barred-at v e h = refused v e notAllowed (sym (ap answerOf (decides r v (barred (rw h tt))))) (λ z. omega arith)
 
   -- Every test of the rule holds, and what the code left is the state with the rule's effect.
-  pub done-at : (v : R) → v ≡ p .get (stateOf b history) → Passes r v → (m : Moved) → m .code ≡ stepDone → m .body ≡ bodyOf (p .put (r .effect v) (stateOf b history))
-      → p .put (r .effect v) (stateOf b history) .history ≡ history ++ acceptedIn n m → Leaves n history (via p (decide r) (stateOf b history)) m
-  done-at v e k m c f g =
+  pub done-at : (v : R) → v ≡ p .get (stateOf b history) → Passes r v → (m : Moved) → m .code ≡ stepDone → (m .accepted ≡ false → m .term .0 ≡ 0)
+      → m .body ≡ bodyOf (p .put (r .effect v) (stateOf b history)) → p .put (r .effect v) (stateOf b history) .history ≡ history ++ acceptedIn n m → Leaves n history (via p (decide r) (stateOf b history)) m
+  done-at v e k m c o f g =
       let answer : answerOf (decide r (p .get s)) ≡ stepDone = ap (λ (x : R). answerOf (decide r x)) (sym e) ∙ ap answerOf (decides r v (passed k)) in
       let put : via p (decide r) s .state ≡ p .put (r .effect v) s = put-in p s r answer ∙ ap (λ (x : R). p .put (r .effect x) s) (sym e) in
       record {
         code = c ∙ sym answer ∙ sym (answered p s r);
         body = f ∙ sym (ap bodyOf put);
         history-grows = ap (λ (t : S.State). t .history) put ∙ g;
+        no-term = o;
       }

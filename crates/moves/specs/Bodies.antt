@@ -1,6 +1,6 @@
 -- A body and a history are a state of the rules; what a step of the code leaves, said by the step of the rules.
 use mathlib.Core.Path.{_≡_}
-use mathlib.Core.Bool.{cond}
+use mathlib.Core.Bool.{false, cond}
 use mathlib.Core.List.{List, [], _∷_, _++_}
 use Prim.Native.Nat.{ℕ}
 use lib.Dec.{T}
@@ -33,3 +33,5 @@ pub record Leaves (n : ℕ) (history : List S.Write) (t : Result ℕ S.State) (r
   pub code : r .code ≡ t .answer
   pub body : r .body ≡ bodyOf (t .state)
   pub history-grows : t .state .history ≡ history ++ acceptedIn n r
+  -- Where it accepted no write, the term is 0.
+  pub no-term : r .accepted ≡ false → r .term .0 ≡ 0

@@ -53,4 +53,4 @@ pub refused-leaves : (b : Body) → Ready b → (n : ℕ) (history : List S.Writ
     → Leaves n history (ofKind o n (stateOf b history)) (plain code b)
 refused-leaves b ready n history o code e h =
     let same = refused-stays n (stateOf b history) o (λ z. h (e ∙ z)) in
-    record { code = e; body = sym (ready .same) ∙ sym (ap bodyOf same); history-grows = ap (λ (t : S.State). t .history) same ∙ sym (append-nil history) }
+    record { code = e; body = sym (ready .same) ∙ sym (ap bodyOf same); history-grows = ap (λ (t : S.State). t .history) same ∙ sym (append-nil history); no-term = λ i. refl }

@@ -53,7 +53,7 @@ module _ (b : Body) (n : ℕ) (a : At b n) where
     learn-yes h x f m e = let v = inboxOf (controllerOf b n) in
         leaves-as n history _ (plain stepDone (withController n x b)) m e
         (done-at (learnPart n) learnRule n b (a .ready) history v (inbox-read b n (row-in b n a) history) (record { allowed = rw h tt; term = tt; history = tt; queues = tt })
-        (plain stepDone (withController n x b)) refl
+        (plain stepDone (withController n x b)) refl (λ i. refl)
         (ap (λ (y : Controller). withController n y b) f ∙ inbox-stored-at b (a .ready) history n (row-in b n a) (learnRule .effect v)) (sym (append-nil history)))
 
     -- ---- 4, 6 Send: for either rule
@@ -67,7 +67,7 @@ module _ (b : Body) (n : ℕ) (a : At b n) where
           → (m : Moved) → m ≡ plain stepDone (withStream n x b) → Leaves n history (via (sendPart n) (decide r) (stateOf b history)) m
       send-yes h x f m e =
           leaves-as n history _ (plain stepDone (withStream n x b)) m e
-          (done-at (sendPart n) r n b (a .ready) history v (sender-read b n (row-in b n a) history) (passes r v h) (plain stepDone (withStream n x b)) refl
+          (done-at (sendPart n) r n b (a .ready) history v (sender-read b n (row-in b n a) history) (passes r v h) (plain stepDone (withStream n x b)) refl (λ i. refl)
           (ap (λ (y : Stream). withStream n y b) f ∙ sent-stored-at b (a .ready) history n (row-in b n a) (r .effect v)) (sym (append-nil history)))
 
     -- ---- 5, 7 Receive: for either rule
@@ -81,7 +81,7 @@ module _ (b : Body) (n : ℕ) (a : At b n) where
           → m ≡ plain stepDone (withController n x (withStream n y b)) → Leaves n history (via (receivePart n) (decide r) (stateOf b history)) m
       receive-yes p x f y g m e =
           leaves-as n history _ (plain stepDone (withController n x (withStream n y b))) m e
-          (done-at (receivePart n) r n b (a .ready) history u (receiver-read b n (row-in b n a) history) p (plain stepDone (withController n x (withStream n y b))) refl
+          (done-at (receivePart n) r n b (a .ready) history u (receiver-read b n (row-in b n a) history) p (plain stepDone (withController n x (withStream n y b))) refl (λ i. refl)
           (ap₂ (λ (q : Controller) (t : Stream). withController n q (withStream n t b)) f g ∙ received-stored-at b (a .ready) history n (row-in b n a) (r .effect u)) (sym (append-nil history)))
 
     pub receive-update-yes : updateWaits (streamOf b n) ≡ true → (x : Controller) → x ≡ storeSays (receiveUpdateRule n .effect (receiverOf (b .count) (controllerOf b n) (streamOf b n))) (controllerOf b n)

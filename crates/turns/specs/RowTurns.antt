@@ -1,14 +1,15 @@
 -- Steps at a node and its stream, on a body in range: the answer is the rules', and what is left is what they leave. Assumes nothing.
 use mathlib.Core.Path.{_≡_, refl, sym, ap, subst, _∙_}
 use mathlib.Core.Logic.{_≢_, _⊎_, ⊎-elim}
-use mathlib.Core.Bool.{Bool, true, false, cond}
-use mathlib.Core.List.{List}
+use mathlib.Core.Bool.{Bool, true, false, true≢false, cond, not}
+use mathlib.Core.List.{List, [], _∷_}
 use Prim.Native.Nat.{ℕ, _-_}
 use native.Mathlib.Omega.{arith}
 use lib.ListN.{length, set}
 use lib.Seq.{set-getD}
 use Rattle.rules.specs.Codes.{stepDone, notAllowed}
 use Rattle.rules.specs.State as S
+use Rattle.rules.specs.Queues.{first, empty}
 use Rattle.rules.specs.Range.{within}
 use Rattle.rules.specs.Part.{decide}
 use Rattle.rules.specs.Rules as R
@@ -53,6 +54,12 @@ rowBody b n r = record {
 
 abbrev pub rowMoved : Body → ℕ → Row → Moved
 rowMoved b n r = record { code = stepDone; body = rowBody b n r; accepted = r .entry .accepted; term = r .entry .term }
+
+-- No write, no term.
+term-none : (l : List S.Write) → not (empty l) ≡ false → first (record { node = 0; term = 0 }) l .term ≡ 0
+unfolding empty first
+term-none [] e = refl
+term-none (w ∷ l) e = absurd (true≢false e)
 
 is-true : (b : Bool) → cond b stepDone notAllowed ≡ stepDone → b ≡ true
 is-true true e = refl
@@ -117,7 +124,7 @@ module _ (b : Body) (n : ℕ) (a : At b n) where
         let v = servedOf (b .count) n (b .running) (streamOf b n) (b .core .claims) (length history) in
         let done : storeHandled (rule .effect (servedOf (b .count) n true (streamOf b n) (b .core .claims) 0)) (streamOf b n) ≡ storeHandled (rule .effect v) (streamOf b n) =
         ap (λ (w : Serving). storeHandled w (streamOf b n)) (write-effect (b .count) n (b .running) (streamOf b n) (b .core .claims) (length history)) in
-        serve-yes b n a history rule (passes rule v z) _ refl
+        serve-yes b n a history rule (passes rule v z) _ refl (term-none (rule .effect (servedOf (b .count) n true (streamOf b n) (b .core .claims) 0) .accepted))
         (ap (λ (l : List Controller). withDesk (b .core .service) l (rowBody b n (rowAfter (askOf b 11 n) (controllerOf b n) (streamOf b n) (b .core .claims)))) same-controllers
         ∙ ap (λ (h : Handled). withLast (h .last) (withStream n (h .stream) b)) done)
         (sym (accepted-back n v (streamOf b n)) ∙ ap (acceptedOf n) (sym done))

@@ -60,7 +60,7 @@ module _ (b : Body) (n : ℕ) (a : At b n) where
   unfolding holdCore
   service-yes r history p x f l g m e =
       leaves-as n history _ (plain stepDone (withDesk x l b)) m e
-      (done-at servicePart r n b (a .ready) history (deskAt b) refl p (plain stepDone (withDesk x l b)) refl
+      (done-at servicePart r n b (a .ready) history (deskAt b) refl p (plain stepDone (withDesk x l b)) refl (λ i. refl)
       (ap₂ (λ (y : Mastership) (k : List Controller). withDesk y k b) f g ∙ desk-stored b (a .ready) history (r .effect (deskAt b))) (sym (append-nil history)))
 
   -- ---- 1 Join

@@ -35,7 +35,7 @@ module _ (b : Body) (n : ℕ) (a : At b n) (history : List S.Write) where
         → (m : Moved) → m ≡ plain stepDone (withStream n x b) → Leaves n history (via (onDevice (linkPart n)) (decide r) (stateOf b history)) m
     link-yes h x f m e = let v = linkedOf (b .running) (streamOf b n) in
         leaves-as n history _ (plain stepDone (withStream n x b)) m e
-        (done-at (onDevice (linkPart n)) r n b (a .ready) history v (linked-read b n (row-in b n a) history) (passes r v h) (plain stepDone (withStream n x b)) refl
+        (done-at (onDevice (linkPart n)) r n b (a .ready) history v (linked-read b n (row-in b n a) history) (passes r v h) (plain stepDone (withStream n x b)) refl (λ i. refl)
         (ap (λ (y : Stream). withStream n y b) f ∙ open-stored-at b (a .ready) history n (row-in b n a) (r .effect v)) (sym (append-nil history)))
 
   -- ---- 9, 10 Close, Handle update: for either rule
@@ -50,7 +50,7 @@ module _ (b : Body) (n : ℕ) (a : At b n) (history : List S.Write) where
     unfolding holdCore
     tell-yes h x f m e = let put : Board → Body = λ y. withBoard (b .running) (y .streams) (y .claims) b in
         leaves-as n history _ (plain stepDone (put x)) m e
-        (done-at (onDevice (tellPart n)) r n b (a .ready) history v refl (passes r v h) (plain stepDone (put x)) refl
+        (done-at (onDevice (tellPart n)) r n b (a .ready) history v refl (passes r v h) (plain stepDone (put x)) refl (λ i. refl)
         (ap put f ∙ telling-stored b (a .ready) history n (r .effect v)) (sym (append-nil history)))
 
   -- ---- 11 Handle write
@@ -59,13 +59,13 @@ module _ (b : Body) (n : ℕ) (a : At b n) (history : List S.Write) where
     abbrev u : Served
     u = servedOf (b .count) n (b .running) (streamOf b n) (b .core .claims) (length history)
 
-    pub serve-yes : Passes r (servedOf (b .count) n (b .running) (streamOf b n) (b .core .claims) (length history)) → (m : Moved) → m .code ≡ stepDone
+    pub serve-yes : Passes r (servedOf (b .count) n (b .running) (streamOf b n) (b .core .claims) (length history)) → (m : Moved) → m .code ≡ stepDone → (m .accepted ≡ false → m .term .0 ≡ 0)
         → m .body ≡ withLast (record { 0 = r .effect (servedOf (b .count) n (b .running) (streamOf b n) (b .core .claims) (length history)) .last })
         (withStream n (storeServing (r .effect (servedOf (b .count) n (b .running) (streamOf b n) (b .core .claims) (length history))) (streamOf b n)) b)
         → r .effect (servedOf (b .count) n (b .running) (streamOf b n) (b .core .claims) (length history)) .accepted ≡ acceptedIn n m
         → Leaves n history (via (onDevice (servePart n)) (decide r) (stateOf b history)) m
-    serve-yes p m c f g =
-        done-at (onDevice (servePart n)) r n b (a .ready) history u (served-read b n (row-in b n a) history) p m c
+    serve-yes p m c o f g =
+        done-at (onDevice (servePart n)) r n b (a .ready) history u (served-read b n (row-in b n a) history) p m c o
         (f ∙ serving-stored-at b (a .ready) history n (row-in b n a) (r .effect u)) (ap (λ (l : List S.Write). history ++ l) g)
 
 module _ (b : Body) (n : ℕ) (a : At b n) where
@@ -86,7 +86,7 @@ module _ (b : Body) (ready : Ready b) (history : List S.Write) where
   unfolding holdCore
   power-yes r p x f m e = let put : Board → Body = λ y. withBoard (r .effect w .running) (y .streams) (y .claims) b in
       leaves-as 0 history _ (plain stepDone (put x)) m e
-      (done-at (onDevice powerPart) r 0 b ready history w refl p (plain stepDone (put x)) refl
+      (done-at (onDevice powerPart) r 0 b ready history w refl p (plain stepDone (put x)) refl (λ i. refl)
       (ap put f ∙ power-stored b ready history (r .effect w)) (sym (append-nil history)))
 
   pub shutdown-yes : b .running ≡ true → (x : Board) → x ≡ packBoard (cleared (holdBoard (b .count) (b .core .streams) (b .core .claims)))

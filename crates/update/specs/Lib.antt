@@ -7,6 +7,7 @@ pub mod Arbitration
 pub mod Merge
 pub mod Choices
 pub mod Merging
+pub mod Unknown
 pub mod Raw
 pub mod Seeing
 pub mod Signed

@@ -1,9 +1,12 @@
 -- What two messages say, one after the other, and which fields say nothing.
-use mathlib.Core.Bool.{Bool, true, not, _||_}
+use mathlib.Core.Path.{_≡_}
+use mathlib.Core.Bool.{Bool, true, false, not, _&&_, _||_}
+use mathlib.Core.List.{List}
 use mathlib.Core.Option.{Option, none, some}
 use Prim.Native.Nat.{ℕ}
 use lib.Dec.{eqb}
 use Rattle.wire.specs.Fields.{Field, varint, fixed, bytes}
+use Rattle.wire.specs.Messages.{whole, message}
 use Rattle.update.specs.Update.{Role, Uint128, Status, Update}
 
 -- A scalar that the later one gives wins.
@@ -39,3 +42,17 @@ abbrev pub unknown : Field → Bool
 unknown (varint k value) = not (eqb k 1)
 unknown (fixed k) = true
 unknown (bytes k held) = not (eqb k 2 || eqb k 3 || eqb k 4)
+
+-- A number in field n.
+abbrev pub isScalar : ℕ → Field → Bool
+isScalar n (varint k value) = eqb k n
+isScalar n (fixed k) = false
+isScalar n (bytes k held) = false
+
+-- The same of the embedded message in field k: each has a scalar 1, and the election id (field 3) a scalar 2.
+abbrev pub unknownIn : ℕ → Field → Bool
+unknownIn k f = not (isScalar 1 f || eqb k 3 && isScalar 2 f)
+
+-- Fields, one after the other, and nothing behind them.
+abbrev pub Fields : List ℕ → Type 0
+Fields l = message (λ f (n : ℕ). whole n) 0 l ≡ whole 0

@@ -1,16 +1,15 @@
--- Protobuf's own rule: two messages one after the other are read as the merge of what each says. And unknown fields change nothing. Assumes nothing.
+-- Protobuf's own rule: two messages one after the other are read as the merge of what each says. Assumes nothing.
 use mathlib.Core.Path.{_≡_, refl, sym, ap, ap₂, _∙_}
-use mathlib.Core.Bool.{Bool, true, false, cond, not, _||_}
-use mathlib.Core.List.{List, [], _++_}
+use mathlib.Core.Bool.{Bool, true, false, cond}
+use mathlib.Core.List.{List, _++_}
 use mathlib.Core.Option.{Option, none, some}
 use Prim.Native.Nat.{ℕ}
-use lib.Dec.{T, eqb}
-use Rattle.wire.specs.Numbers.{taken}
-use Rattle.wire.specs.Fields.{Field, varint, fixed, bytes, field}
+use lib.Dec.{eqb}
+use Rattle.wire.specs.Fields.{Field, varint, fixed, bytes}
 use Rattle.wire.specs.Messages.{Reading, whole, broken, mapped, message}
-use Rattle.wire.specs.Folding.{message-append, message-seen, message-skips}
+use Rattle.wire.specs.Folding.{message-append, message-seen}
 use Rattle.update.specs.Update.{Role, Uint128, Status, Update, noRole, noElection, noStatus, nothing, scalar, inRole, inElection, inStatus, orElse, embedded, withRole, withElection, withStatus, took, reading}
-use Rattle.update.specs.Merge.{later, mergeRole, mergeElection, mergeStatus, both, merge, unknown}
+use Rattle.update.specs.Merge.{later, mergeRole, mergeElection, mergeStatus, both, merge}
 use Rattle.update.specs.Choices.{either-same}
 
 later-if : (b : Bool) (value : ℕ) (old new : Option ℕ) → later old (cond b (some value) new) ≡ cond b (some value) (later old new)
@@ -120,21 +119,3 @@ module _ (u : Update) where
 pub concatenation : (x y : List ℕ) (u v : Update) → reading x ≡ whole u → reading y ≡ whole v → reading (x ++ y) ≡ whole (merge u v)
 unfolding reading
 concatenation x y u v p q = message-append took x y nothing u p ∙ sym (message-seen took took (merge u) (took-merged u) y nothing) ∙ ap (mapped (merge u)) q
-
--- ---- unknown fields
-
-none-of : (a b c : Bool) (r s t z : Reading Update) → T (not (a || b || c)) → cond a r (cond b s (cond c t z)) ≡ z
-none-of false false false r s t z h = refl
-
-not-this : (b : Bool) (value : ℕ) (old : Option ℕ) → T (not b) → cond b (some value) old ≡ old
-not-this false value old h = refl
-
-says-nothing : (f : Field) → T (unknown f) → (u : Update) → took f u ≡ whole u
-says-nothing (varint k value) h u = ap (λ (d : Option ℕ). whole (record { device = d; role = u .role; election = u .election; status = u .status })) (not-this (eqb k 1) value (u .device) h)
-says-nothing (fixed k) h u = refl
-says-nothing (bytes k held) h u = none-of (eqb k 2) (eqb k 3) (eqb k 4) _ _ _ (whole u) h
-
--- y is one field, whole, behind a message that can be read.
-pub unknown-field : (x y z : List ℕ) (f : Field) (u : Update) → reading x ≡ whole u → field y ≡ taken f [] → T (unknown f) → reading (x ++ (y ++ z)) ≡ reading (x ++ z)
-unfolding reading
-unknown-field x y z f u p e h = message-skips took f (says-nothing f h) x y z nothing u p e
