@@ -19,7 +19,9 @@ def crate_of(path):
 def place(path):
     """The file or struct that a module's path means, as crate/specs/File or crate::Struct; nothing for one of the kit's."""
     found = re.fullmatch(r"Rattle·(\w+?)(?:·specs)?\.specs\.(declared\.)?(\w+)(?:\.the-variants)?", path)
-    return found and (f"{found[1]}::{found[3]}" if found[2] else f"{found[1]}/specs/{found[3]}")
+    if found and (CRATES / found[1]).is_dir():
+        return f"{found[1]}::{found[3]}" if found[2] else f"{found[1]}/specs/{found[3]}"
+    return None
 
 
 def spellings(name):

@@ -1,5 +1,5 @@
 -- Believed: Assured.
--- Laws: Meaning, Names, Lacks, Sample.
+-- Laws: Times, Keeps, Meaning, Names, Lacks, Uncrossed, Sample.
 pub mod Assured
 pub mod Times
 pub mod Keeps

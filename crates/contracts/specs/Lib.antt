@@ -1,3 +1,5 @@
+-- Definitions: Opened, Calls.
+-- Laws: Contract, Only, One, Steps, Wrong, Ranges, Lists, Merges, Logs, Messages.
 pub mod Contract
 pub mod Opened
 pub mod Calls

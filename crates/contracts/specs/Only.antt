@@ -12,7 +12,7 @@ use Rattle.merges.specs.Independent.{independent}
 use Rattle.runner.specs.Ran.{ran}
 use Rattle.transcript.specs.Transcript.{transcript}
 use Rattle.comparing.specs.Compared.{compared}
-use Rattle.merging.specs.Told.{told}
+use Rattle.merging.specs.Reply.{reply}
 use Rattle.report.specs.Report.{report}
 use Rattle.warnings.specs.Answer.{answer}
 use Rattle.update.specs.Update.{reading}
@@ -66,10 +66,10 @@ only-transcript = only _ _ _ _ _ (λ κs a r e m. at-front (m .0))
 pub only-compare : Only CompareMay (λ g. compared (g .0) (g .1)) (λ g. tt)
 only-compare = only _ _ _ _ _ (λ κs a r e m. (m, refl))
 
-pub only-same-merge : Only SameMergeMay (λ g. told (g .0) (g .1) (g .2) .returned) (λ g. told (g .0) (g .1) (g .2) .places)
+pub only-same-merge : Only SameMergeMay (λ g. reply (g .0) (g .1) (g .2) .returned) (λ g. reply (g .0) (g .1) (g .2) .places)
 only-same-merge = only _ _ _ _ _ (λ κs a r e m. m)
 
-pub only-host-same-merge : Only HostSameMergeMay (λ g. told (g .0) (g .1) (g .2) .returned) (λ g. told (g .0) (g .1) (g .2) .places)
+pub only-host-same-merge : Only HostSameMergeMay (λ g. reply (g .0) (g .1) (g .2) .returned) (λ g. reply (g .0) (g .1) (g .2) .places)
 only-host-same-merge = only _ _ _ _ _ (λ κs a r e m. m)
 
 pub only-report : (g : List ℕ × List ℕ × List ℕ) → Puts ReportMay g (report (g .0) (g .1)) (g .2)

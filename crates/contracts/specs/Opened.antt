@@ -2,8 +2,8 @@
 use Prim.Native.Nat.{ℕ}
 use Rattle.laws.specs.Computed.{computed}
 use Rattle.merges.specs.Independent.{listed, exists, independent}
-use Rattle.state.specs.Hold.{holdDesk, holdWire, holdCore, holdHistory, hold, packNodes, packStreams, packClaims, packCore, packHistory, represent}
-use Rattle.state.specs.Tidy.{noMessage, noStatus, blankMastership, blankRequest, blankResponse, tidyMastership, tidyRequest, tidyResponse, tidyPlaces, tidyNode, tidyStream, blankNode, blankStream, tidyCore, blankWrite, tidyHistory, stateFits}
+use Rattle.state.specs.Hold.{holdDesk, holdBoard, holdCore, holdHistory, hold, packControllers, packStreams, packClaims, packCore, packHistory, represent}
+use Rattle.state.specs.Tidy.{noMessage, noStatus, blankMastership, blankRequest, blankResponse, tidyMastership, tidyRequest, tidyResponse, tidyPlaces, tidyController, tidyStream, blankController, blankStream, tidyCore, blankWrite, tidyHistory, stateFits}
 use Rattle.lists.specs.EventList.{numberAt, refusal, historyBytes}
 use Rattle.runner.specs.Ran.{runRefusal, ran}
 use Rattle.text.specs.Decimal.{digits, decimal}
@@ -12,7 +12,7 @@ use Rattle.text.specs.Lines.{recordLine, writesLine, writeLine}
 use Rattle.transcript.specs.Transcript.{lines, runText, transcript}
 use Rattle.comparing.specs.Compare.{compare}
 use Rattle.comparing.specs.Compared.{compared}
-use Rattle.merging.specs.Told.{told}
+use Rattle.merging.specs.Reply.{reply}
 use Rattle.partings.specs.Difference.{common, difference}
 use Rattle.report.specs.Report.{verdictLine, partingLine, runsText, report}
 use Rattle.verdict.specs.Clocks.{fixed}
@@ -29,7 +29,7 @@ use Rattle.packed.specs.Bytes.{little, reported}
 use Rattle.printout.specs.Printout.{roleLines, electionLines, statusLines, fieldLines, printout}
 
 unfoldable pub states : ℕ
-unfolding computed holdDesk holdWire holdCore holdHistory hold packNodes packStreams packClaims packCore packHistory represent noMessage noStatus blankMastership blankRequest blankResponse tidyMastership tidyRequest tidyResponse tidyPlaces tidyNode tidyStream blankNode blankStream tidyCore blankWrite tidyHistory stateFits
+unfolding computed holdDesk holdBoard holdCore holdHistory hold packControllers packStreams packClaims packCore packHistory represent noMessage noStatus blankMastership blankRequest blankResponse tidyMastership tidyRequest tidyResponse tidyPlaces tidyController tidyStream blankController blankStream tidyCore blankWrite tidyHistory stateFits
 states = 0
 
 unfoldable pub runs : ℕ
@@ -41,7 +41,7 @@ unfolding runs digits decimal recordLine writesLine writeLine lines runText tran
 prints = 0
 
 unfoldable pub compares : ℕ
-unfolding computed numberAt refusal listed exists independent compare compared told
+unfolding computed numberAt refusal listed exists independent compare compared reply
 compares = 0
 
 unfoldable pub reports : ℕ

@@ -35,7 +35,7 @@ openAboveN = let s = represent (fresh 2) in record {
   running = s .running;
   core = record {
     service = s .core .service;
-    nodes = s .core .nodes;
+    controllers = s .core .controllers;
     streams = set (s .core .streams) 2 (packStream true 0 [] []);
     claims = s .core .claims;
   };

@@ -162,7 +162,7 @@ right-reports s = record { lifetimes = tt; arguments = (s, tt); exit = (s, tt); 
 
 -- 5: for some state in range, the count is not the number of open streams.
 abbrev pub MakesUpStreams : Reporter → Type 0
-MakesUpStreams f = (s : S.State) × T (inRange s) × (f (represent s) .count ≢ countOf (s .core .wire .opens))
+MakesUpStreams f = (s : S.State) × T (inRange s) × (f (represent s) .count ≢ countOf (s .core .board .opens))
 
 module _ (f : Reporter) (meets : Reports f) where
   pub not-makes-up-streams : ¬ MakesUpStreams f

@@ -1,5 +1,5 @@
 -- Believed: Exchange.
--- Laws: Bytes, Moves, Filling, Ran, Passing.
+-- Laws: Bytes, Moves, Filling, Ran, Passing, Allowed.
 pub mod Exchange
 pub mod Bytes
 pub mod Moves

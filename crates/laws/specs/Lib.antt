@@ -1,6 +1,6 @@
 -- Believed: All, Answered.
 -- Definitions: Computed, InRange.
--- Laws: Tests, RangeTest, Lists, Ids, Decide, Wires, KeepsService, KeepsNode, KeepsTelling, KeepsSwitch, Keeps, Answers, Steps, Runs, Kinds.
+-- Laws: Tests, RangeTest, Lists, Ids, Decide, Boards, KeepsService, KeepsNode, KeepsTelling, KeepsSwitch, Keeps, Answers, Steps, Runs, Kinds.
 pub mod All
 pub mod Computed
 pub mod InRange

@@ -1,6 +1,5 @@
 -- Believed: Difference.
--- Definitions: Reads.
--- Laws: Entries, Runs.
+-- Laws: Entries, Alike, Runs.
 pub mod Difference
 pub mod Entries
 pub mod Alike

@@ -1,4 +1,4 @@
--- Believed: Rows.
+-- Believed: Rows, PairLine.
 -- Laws: Times.
 pub mod Rows
 pub mod PairLine

@@ -1,4 +1,4 @@
--- Definitions: Names, Scope, Fresh, Alone, Told.
+-- Definitions: Names, Scope, Fresh, Alone, WhoIsTold.
 -- Laws: Equal, Situation, Table.
 pub mod Names
 pub mod Equal

@@ -1,5 +1,5 @@
 -- Definitions: Turns, Asks.
--- Laws: Answers, At, Nodes, Service, Switch, Called, RowTurns, DeskTurns, WireTurns.
+-- Laws: Answers, At, Nodes, Service, Switch, Called, RowTurns, DeskTurns, BoardTurns.
 pub mod Turns
 pub mod Asks
 pub mod Answers

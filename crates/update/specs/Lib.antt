@@ -1,6 +1,6 @@
 -- Believed: Update, Seen, Arbitration, Merge.
 -- Definitions: Raw.
--- Laws: Choices, Merging, Seeing, Signed, Sample.
+-- Laws: Choices, Merging, Unknown, Seeing, Signed, Sample.
 pub mod Update
 pub mod Seen
 pub mod Arbitration

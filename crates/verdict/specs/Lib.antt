@@ -1,5 +1,5 @@
 -- Believed: Verdict, Pairs, Clocks, Own.
--- Laws: Steps, Chains, Exact, Kept, Projections, Merging, Owned.
+-- Laws: Steps, Chains, Exact, Kept, Projections, Merging, Passing, Owned.
 pub mod Verdict
 pub mod Pairs
 pub mod Clocks

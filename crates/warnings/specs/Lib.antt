@@ -1,5 +1,5 @@
--- Believed: Words, Answer.
--- Laws: Showing, Rows, Promise.
+-- Believed: Words, Answer, Told.
+-- Laws: Showing, Rows, Promise, Lines, Telling.
 pub mod Words
 pub mod Answer
 pub mod Showing
