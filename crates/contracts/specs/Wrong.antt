@@ -119,7 +119,7 @@ right-runs list out = record {
 abbrev pub ZeroForTheRest : Runner → Type 0
 ZeroForTheRest f = (list out : List ℕ) → runRefusal list out ≡ 0 → (i : ℕ) → 1 ≤ i → i < recordCount list → getD (f list out .out) i 0 ≡ 0
 
--- 5: for some list that is run, the number returned is not 256 and the number of accepted writes.
+-- 5: for some list that is run, the number returned is not 256 plus the number of accepted writes.
 abbrev pub MakesUpWrites : Runner → Type 0
 MakesUpWrites f = (list : List ℕ) × (out : List ℕ) × (runRefusal list out ≡ 0) × (f list out .returned ≢ noWrites + length (wholeRun list .state .history))
 
