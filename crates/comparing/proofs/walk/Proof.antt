@@ -39,6 +39,9 @@ turn-of read = read .before .before .before
 abbrev read-of : tie.After-next-stop Inv-loop μ-loop → tie.After-read-record Inv-loop μ-loop
 read-of stop = stop .before .before .before
 
+abbrev turn-at : tie.After-next-stop Inv-loop μ-loop → tie.At-loop Inv-loop μ-loop
+turn-at stop = turn-of (read-of stop)
+
 abbrev stop-of : tie.After-alike Inv-loop μ-loop → tie.After-next-stop Inv-loop μ-loop
 stop-of met = met .before .before .before .before .before
 
@@ -64,17 +67,17 @@ are c q h = start-of c .pre .2 .are q (let t = start-of c .pre .1 .records in om
 
 -- ---- once it has found where the next record stops
 
-letter-of : (c : tie.After-next-stop Inv-loop μ-loop) → let turn = turn-of (read-of c) in c .before .before .letter .result ≡ letterOf (recordAt (start-of turn .args .first .now) (turn .loop .j))
+letter-of : (c : tie.After-next-stop Inv-loop μ-loop) → let turn = turn-at c in c .before .before .letter .result ≡ letterOf (recordAt (start-of turn .args .first .now) (turn .loop .j))
 letter-of c = c .before .before .letter .ensures ∙ ap letterOf (read-of c .read-record .ensures)
 
-inside : (c : tie.After-next-stop Inv-loop μ-loop) → let x = start-of (turn-of (read-of c)) .args in c .next-stop .result ≢ x .other .records → c .next-stop .result < x .other .records
-inside c d = let h = c .next-stop .ensures .high in let z = turn-of (read-of c) .loop .inv .placed .size in omega arith
+inside : (c : tie.After-next-stop Inv-loop μ-loop) → let x = start-of (turn-at c) .args in c .next-stop .result ≢ x .other .records → c .next-stop .result < x .other .records
+inside c d = let h = c .next-stop .ensures .high in let z = turn-at c .loop .inv .placed .size in omega arith
 
-met-inside : (c : tie.After-alike Inv-loop μ-loop) → stop-of c .next-stop .result < start-of (turn-of (read-of (stop-of c))) .args .other .records
+met-inside : (c : tie.After-alike Inv-loop μ-loop) → stop-of c .next-stop .result < start-of (turn-at (stop-of c)) .args .other .records
 met-inside c = inside (stop-of c) (c .before .before .before .if2 .left)
 
 -- whether the record that is met is the one that is looked for
-same : (c : tie.After-alike Inv-loop μ-loop) → let d = stop-of c in let turn = turn-of (read-of d) in let x = start-of turn .args in let l = turn .loop in
+same : (c : tie.After-alike Inv-loop μ-loop) → let d = stop-of c in let turn = turn-at d in let x = start-of turn .args in let l = turn .loop in
     sameEvent (recordAt (x .first .now) (l .j)) (recordAt (x .second .now) (getD (l .places) (d .next-stop .result) 0)) ≡ c .alike .result
 same c = ap₂ sameEvent (sym (read-of (stop-of c) .read-record .ensures)) (sym (c .before .read-record2 .ensures)) ∙ sym (c .alike .ensures)
 
@@ -92,38 +95,36 @@ letter-requires c κs = search needs
 
 next-stop-requires : tie.Need-next-stop-requires Inv-loop μ-loop
 next-stop-requires c κs =
-    let turn = turn-of (c .before .before) in
-    let start = start-of turn in
-    let p = turn .loop .inv in
+    let start = start-of (turn-of (c .before .before)) in
+    let p = turn-of (c .before .before) .loop .inv in
     let read = c .before .before .read-record .result in
     let small = letter-small (event (read .kind) (read .node)) in
-    (start .pre .4 .size, omega arith, subst (Placed (turn .loop .places)) (sym (start .pre .2 .size ∙ sym (start .pre .1 .records))) (p .placed), let z = p .placed .size in let r = p .room in omega arith)
+    (start .pre .4 .size, omega arith, subst (Placed (turn-of (c .before .before) .loop .places)) (sym (start .pre .2 .size ∙ sym (start .pre .1 .records))) (p .placed), let z = p .placed .size in let r = p .room in omega arith)
 
 only-first-requires : tie.Need-only-first-requires Inv-loop μ-loop
 only-first-requires c κs = search needs
 
 same-length : tie.Need-same-length Inv-loop μ-loop
-same-length c = as-long (turn-of (read-of (c .before .before .before)))
+same-length c = as-long (turn-at (c .before .before .before))
 
 returns : tie.Need-returns Inv-loop μ-loop
 returns c =
     let d = c .before .before .before in
-    let turn = turn-of (read-of d) in
-    let start = start-of turn in
+    let start = start-of (turn-at d) in
     let x = start .args in
-    c .only-first .ensures ∙ walk-missing (x .one .nodes) (recordAt (x .first .now)) (recordAt (x .second .now)) (x .one .records) (x .other .records) (turn .loop .inv) (few turn) (start .pre .4) (x .letters .now) (are turn) (read-of d .before .if1 .taken) (letter-of d) (d .next-stop .ensures) (omega arith)
+    c .only-first .ensures ∙ walk-missing (x .one .nodes) (recordAt (x .first .now)) (recordAt (x .second .now)) (x .one .records) (x .other .records) (turn-at d .loop .inv) (few (turn-at d)) (start .pre .4) (x .letters .now) (are (turn-at d)) (read-of d .before .if1 .taken) (letter-of d) (d .next-stop .ensures) (omega arith)
 
 mul-place : tie.Need-mul-place Inv-loop μ-loop
 mul-place c = search needs
 
 slice-read-place : tie.Need-slice-read-place Inv-loop μ-loop
-slice-read-place c = let z = turn-of (read-of (c .before .before .before)) .loop .inv .placed .size in let h = inside (c .before .before .before) (c .before .if2 .left) in omega arith
+slice-read-place c = let z = turn-at (c .before .before .before) .loop .inv .placed .size in let h = inside (c .before .before .before) (c .before .if2 .left) in omega arith
 
 cast-place : tie.Need-cast-place Inv-loop μ-loop
-cast-place c = let h = place-small (turn-of (read-of (c .before .before .before))) _ (inside (c .before .before .before) (c .before .if2 .left)) in omega arith
+cast-place c = let h = place-small (turn-at (c .before .before .before)) _ (inside (c .before .before .before) (c .before .if2 .left)) in omega arith
 
 read-record-requires-2 : tie.Need-read-record-requires-2 Inv-loop μ-loop
-read-record-requires-2 c κs = let h = turn-of (read-of (c .before .before .before)) .loop .inv .placed .inside _ (inside (c .before .before .before) (c .before .if2 .left)) in search needs
+read-record-requires-2 c κs = let h = turn-at (c .before .before .before) .loop .inv .placed .inside _ (inside (c .before .before .before) (c .before .if2 .left)) in search needs
 
 alike-requires : tie.Need-alike-requires Inv-loop μ-loop
 alike-requires c κs = search needs
@@ -132,29 +133,27 @@ hindrance-requires : tie.Need-hindrance-requires Inv-loop μ-loop
 hindrance-requires c κs =
     let met = c .before .before in
     let d = stop-of met in
-    let turn = turn-of (read-of d) in
-    let start = start-of turn in
-    (start .pre .0, start .pre .1, turn .loop .inv .placed, read-of d .before .if1 .taken, d .next-stop .ensures .low, met-inside met)
+    let start = start-of (turn-at d) in
+    (start .pre .0, start .pre .1, turn-at d .loop .inv .placed, read-of d .before .if1 .taken, d .next-stop .ensures .low, met-inside met)
 
 same-length-2 : tie.Need-same-length-2 Inv-loop μ-loop
-same-length-2 c = as-long (turn-of (read-of (stop-of (c .before .before .before))))
+same-length-2 c = as-long (turn-at (stop-of (c .before .before .before)))
 
 returns-2 : tie.Need-returns-2 Inv-loop μ-loop
 returns-2 c =
     let met = c .before .before .before in
     let d = stop-of met in
-    let turn = turn-of (read-of d) in
-    let start = start-of turn in
+    let start = start-of (turn-at d) in
     let x = start .args in
     c .hindrance .ensures
-    ∙ walk-blocked (x .one .nodes) (recordAt (x .first .now)) (recordAt (x .second .now)) (x .one .records) (x .other .records) (turn .loop .inv) (few turn) (start .pre .4) (x .letters .now) (are turn) (read-of d .before .if1 .taken) (letter-of d) (d .next-stop .ensures) (met-inside met) (same met ∙ not-true _ (c .before .before .if3 .taken))
+    ∙ walk-blocked (x .one .nodes) (recordAt (x .first .now)) (recordAt (x .second .now)) (x .one .records) (x .other .records) (turn-at d .loop .inv) (few (turn-at d)) (start .pre .4) (x .letters .now) (are (turn-at d)) (read-of d .before .if1 .taken) (letter-of d) (d .next-stop .ensures) (met-inside met) (same met ∙ not-true _ (c .before .before .if3 .taken))
 
 take-requires : tie.Need-take-requires Inv-loop μ-loop
 take-requires c κs =
     let d = stop-of (c .before .before) in
     let l = d .next-stop .ensures .low in
     let h = met-inside (c .before .before) in
-    let z = turn-of (read-of d) .loop .inv .placed .size in
+    let z = turn-at d .loop .inv .placed .size in
     (omega arith, omega arith)
 
 add-j : tie.Need-add-j Inv-loop μ-loop
@@ -168,10 +167,9 @@ loop-again c =
     let taken = c .before .before in
     let met = taken .before .before .before in
     let d = stop-of met in
-    let turn = turn-of (read-of d) in
-    let start = start-of turn in
+    let start = start-of (turn-at d) in
     let x = start .args in
-    walk-takes (x .one .nodes) (recordAt (x .first .now)) (recordAt (x .second .now)) (x .one .records) (x .other .records) (turn .loop .inv) (few turn) (start .pre .4) (x .letters .now) (are turn) (read-of d .before .if1 .taken) (letter-of d) (d .next-stop .ensures) (met-inside met) (taken .take .ensures) (same met ∙ not-false _ (taken .before .before .if3 .left))
+    walk-takes (x .one .nodes) (recordAt (x .first .now)) (recordAt (x .second .now)) (x .one .records) (x .other .records) (turn-at d .loop .inv) (few (turn-at d)) (start .pre .4) (x .letters .now) (are (turn-at d)) (read-of d .before .if1 .taken) (letter-of d) (d .next-stop .ensures) (met-inside met) (taken .take .ensures) (same met ∙ not-false _ (taken .before .before .if3 .left))
 
 mul-only-second : tie.Need-mul-only-second Inv-loop μ-loop
 mul-only-second c = search needs

@@ -55,8 +55,8 @@ again-of c = c .before .before
 abbrev desk-of : tie.After-service-after Inv-loop μ-loop → tie.Then8 Inv-loop μ-loop
 desk-of c = c .before .before
 
-abbrev wire-of : tie.After-wire-after Inv-loop μ-loop → tie.Else8 Inv-loop μ-loop
-wire-of c = c .before .before .before
+abbrev board-of : tie.After-board-after Inv-loop μ-loop → tie.Else8 Inv-loop μ-loop
+board-of c = c .before .before .before
 
 abbrev row-of : tie.After-struct-known4 Inv-loop μ-loop → tie.Then6 Inv-loop μ-loop
 row-of c = c .before .before .before
@@ -434,12 +434,12 @@ runs-after-requires c κs = search needs
 
 loop-less-7 : tie.Need-loop-less-7 Inv-loop μ-loop
 loop-less-7 c =
-    let f = few-nodes (loop-of (read-of (answer-of (again-of (wire-of (c .before .before .before) .before))))) in
+    let f = few-nodes (loop-of (read-of (answer-of (again-of (board-of (c .before .before .before) .before))))) in
     omega arith
 
 loop-again-7 : tie.Need-loop-again-7 Inv-loop μ-loop
 loop-again-7 c =
-    let g = wire-of (c .before .before .before) in
+    let g = board-of (c .before .before .before) in
     let j = answer-of (again-of (g .before)) in
     let h = turn (j .before .before) in
     let done = again-of (g .before) .before .if5 .left in
