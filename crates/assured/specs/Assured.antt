@@ -1,5 +1,5 @@
 -- What the verdict on two lists of bytes means: it is `same` exactly where exchanges of independent neighbours lead from the records of the one list to those of
--- the other; and then running them gives the same. `Meaning` proves both, `Names` and `Lacks` what the places say, `Uncrossed` that lists which are the same have
+-- the other; and then running them gives the same. `Meaning` proves both, `Names` what the places say, `Uncrossed` that lists which are the same have
 -- no such places. Assumes nothing.
 use mathlib.Core.Path.{_≡_}
 use mathlib.Core.Logic.{_↔_}
@@ -88,8 +88,12 @@ OrderNames = (first second : List ℕ) (a b a′ b′ : ℕ) → compared first 
 abbrev pub SameUncrossed : Type 0
 SameUncrossed = (first second : List ℕ) (a b a′ b′ : ℕ) → compared first second ≡ same → Crossed first second a b a′ b′ → ⊥
 
--- The list that lacks a record has fewer of it than the other.
+-- The other list has no more of the record at a place than come before it.
+pub record Lacked (list other : List ℕ) (place : ℕ) : Type 0 where
+  pub inside : place < recordCount list
+  pub fewer : times (recordAt list place) (records other) ≤ earlier list place
+
 abbrev pub OnlyNames : Type 0
 OnlyNames = (first second : List ℕ) (place : ℕ)
-    → (compared first second ≡ onlyFirst place → times (recordAt first place) (records second) < times (recordAt first place) (records first))
-    × (compared first second ≡ onlySecond place → times (recordAt second place) (records first) < times (recordAt second place) (records second))
+    → (compared first second ≡ onlyFirst place → Lacked first second place)
+    × (compared first second ≡ onlySecond place → Lacked second first place)

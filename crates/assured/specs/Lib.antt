@@ -4,7 +4,8 @@ pub mod Assured
 pub mod Times
 pub mod Keeps
 pub mod Meaning
+pub mod Blocked
+pub mod Sorts
 pub mod Names
-pub mod Lacks
 pub mod Uncrossed
 pub mod Sample
