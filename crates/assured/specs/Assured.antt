@@ -7,7 +7,7 @@ use mathlib.Core.Bool.{false}
 use mathlib.Core.List.{List}
 use Prim.Native.Nat.{ℕ, _+_, _≤_, _<_}
 use lib.ListN.{length, take}
-use Rattle.rules.specs.Codes.{bufferShort}
+use Rattle.rules.specs.Codes.{outTooShort}
 use Rattle.rules.specs.Step.{Event}
 use Rattle.merges.specs.Independent.{independent}
 use Rattle.lists.specs.EventList.{byteAt, nodeCount, recordCount, recordAt, records}
@@ -69,7 +69,7 @@ SameAssures = (first second out : List ℕ) → recordCount first + historyRoom 
 -- In a shorter one neither is run, and it stays as it was.
 abbrev pub SameShort : Type 0
 SameShort = (first second out : List ℕ) → length out < recordCount first + historyRoom → compared first second ≡ same
-    → (ran first out ≡ record { returned = bufferShort; out = out }) × (ran second out ≡ record { returned = bufferShort; out = out })
+    → (ran first out ≡ record { returned = outTooShort; out = out }) × (ran second out ≡ record { returned = outTooShort; out = out })
 
 -- ---- what is named
 
