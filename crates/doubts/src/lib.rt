@@ -10,15 +10,17 @@ ghost use Rattle.doubts.specs.Doubts.{inDoubt, doubtAt, doubts};
 ghost use Rattle.doubts.specs.Index.{Lettered, Least, Index};
 ghost use Rattle.doubts.specs.Search.{Next};
 ghost use Rattle.doubts.specs.Found.{mostPairs, Found};
+use logtext::AT_KIND;
+use logtext::AT_LOG;
+use logtext::AT_NODE;
+use logtext::ROW;
+use logtext::AT_TIME;
 
 // Two records, by their places.
 pub struct Pair {
     pub x: usize,
     pub y: usize,
 }
-
-// The most records that a log has.
-const MOST_RECORDS: usize = 32762;
 
 // The most pairs that are looked for, and the places of their records.
 const MOST_PAIRS: usize = 17;
@@ -35,10 +37,10 @@ fn letter_at(rows: &[u64], i: usize) -> u8
     requires { ⌜ 5 * i + 5 ≤ length (now rows) ⌝ }
     ensures { λ r. ⌜ r ≡ letterOf (rowIn (now (rows .entry)) i .logged .event) ⌝ }
 {
-    let kind = rows[5 * i + 3];
-    let node = rows[5 * i + 4];
-    if (kind < 14) & (node < 9) {
-        return (9 * kind + node) as u8;
+    let kind = rows[ROW * i + AT_KIND];
+    let node = rows[ROW * i + AT_NODE];
+    if (kind < 256) & (node < 256) {
+        return letters::letter(kind as u8, node as u8);
     }
     0
 }
@@ -73,7 +75,7 @@ fn fill_least(rows: &[u64], n: usize, least: &mut [u64])
     let mut i = n;
     while 0 < i {
         i -= 1;
-        time = earlier(time, rows[5 * i + 2]);
+        time = earlier(time, rows[ROW * i + AT_TIME]);
         least[i] = time;
     }
 }
@@ -98,10 +100,10 @@ fn in_doubt(
     if table[256 * (letters[x] as usize) + letters[y] as usize] == 1 {
         return false;
     }
-    if rows[5 * x + 1] == rows[5 * y + 1] {
+    if rows[ROW * x + AT_LOG] == rows[ROW * y + AT_LOG] {
         return false;
     }
-    records::may_precede(rows[5 * y + 2], rows[5 * x + 2], bound)
+    records::may_precede(rows[ROW * y + AT_TIME], rows[ROW * x + AT_TIME], bound)
 }
 
 // The next record behind a start with which record x is in doubt; n where there is none. Where no time that is left is early enough, the search is over.
@@ -121,7 +123,7 @@ fn next_with(
 {
     let mut y = start;
     while y < n {
-        if !records::may_precede(least[y], rows[5 * x + 2], bound) {
+        if !records::may_precede(least[y], rows[ROW * x + AT_TIME], bound) {
             return n;
         }
         if in_doubt(rows, n, table, letters, least, nodes, bound, x, y) {
@@ -230,8 +232,8 @@ pub fn first_pairs(
 {
     let mut table = [0u8; letters::TABLE_SIZE];
     letters::fill_table(nodes, &mut table);
-    let mut letters = [0u8; MOST_RECORDS];
-    let mut least = [0u64; MOST_RECORDS];
+    let mut letters = [0u8; lists::MOST_RECORDS];
+    let mut least = [0u64; lists::MOST_RECORDS];
     collect_afresh(
         rows,
         n,

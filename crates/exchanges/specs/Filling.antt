@@ -14,7 +14,7 @@ use Rattle.text.specs.Put.{Put}
 use Rattle.text.specs.Puts.{put-none, put-then}
 use Rattle.records.specs.Rows.{rowIn}
 use Rattle.exchanges.specs.Exchange.{moved}
-use Rattle.exchanges.specs.Bytes.{flat, trailerOf, listOf}
+use Rattle.lists.specs.Made.{flat, trailerBytes, listOf}
 
 -- The step at place i of the exchanged merge.
 abbrev pub stepAt : List ℕ → Bool → ℕ → ℕ → ℕ → Event
@@ -57,7 +57,7 @@ module _ {f : ℕ → Event} {n : ℕ} {before after : List ℕ} {at i : ℕ} (s
       (rw (take-all i (table n f) (omega arith)) at (s .put), omega arith)
 
 -- The steps, and the trailer behind them.
-pub list-put : (count n : ℕ) (f : ℕ → Event) {l m k : List ℕ} {i j : ℕ} → Put l 0 (flat (table n f)) m i → Put m i (trailerOf n count) k j → Put l 0 (listOf count (table n f)) k j
+pub list-put : (count n : ℕ) (f : ℕ → Event) {l m k : List ℕ} {i j : ℕ} → Put l 0 (flat (table n f)) m i → Put m i (trailerBytes n count) k j → Put l 0 (listOf count (table n f)) k j
 list-put count n f p q = put-then p (rw (table-length n f) q)
 
 -- ---- the list that was put down, as the run reads it

@@ -1,7 +1,6 @@
 -- Believed: Exchange.
 -- Laws: Bytes, Moves, Filling, Ran, Passing, Allowed.
 pub mod Exchange
-pub mod Bytes
 pub mod Moves
 pub mod Filling
 pub mod Ran

@@ -17,7 +17,7 @@ use Rattle.partings.specs.Runs.{Written, written-run}
 use Rattle.logtext.specs.Log.{Row}
 use Rattle.records.specs.Rows.{noRow, rowIn, rowsIn, stepsOf}
 use Rattle.exchanges.specs.Exchange.{moved, exchanged, historyOf, partingOf}
-use Rattle.exchanges.specs.Bytes.{listOf, Small, list-good, list-count, list-nodes, list-records}
+use Rattle.lists.specs.Made.{listOf, Small, list-good, list-count, list-nodes, list-records}
 use Rattle.exchanges.specs.Moves.{before-both, moved-inside}
 use Rattle.exchanges.specs.Filling.{stepAt}
 

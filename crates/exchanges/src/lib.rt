@@ -12,16 +12,15 @@ ghost use Rattle.runner.specs.Ran.{historyRoom};
 ghost use Rattle.partings.specs.Runs.{Written};
 ghost use Rattle.records.specs.Rows.{noRow, rowIn, rowsIn, stepsOf};
 ghost use Rattle.exchanges.specs.Exchange.{moved, mayPass, allowed, partingOf};
-ghost use Rattle.exchanges.specs.Bytes.{flat, listOf, Small};
+ghost use Rattle.lists.specs.Made.{flat, listOf, Small};
 ghost use Rattle.exchanges.specs.Filling.{stepAt};
 ghost use Rattle.exchanges.specs.Ran.{AtHand};
+use logtext::AT_KIND;
+use logtext::AT_LOG;
+use logtext::AT_NODE;
+use logtext::ROW;
+use logtext::AT_TIME;
 use partings::Parting;
-
-// Room for the answers to 32,762 records, and for a full history.
-pub const LONGEST_OUT: usize = 36858;
-
-// What a run without writes returns.
-const NO_WRITES: u32 = 256;
 
 // The record that stands at place i of the exchanged merge.
 fn source(up: bool, x: usize, y: usize, i: usize) -> usize
@@ -57,8 +56,8 @@ fn put_records(list: &mut [u8], rows: &[u64], n: usize, up: bool, x: usize, y: u
     let mut at: usize = 0;
     let mut i: usize = 0;
     while i < n {
-        let from = 5 * source(up, x, y, i);
-        let bytes = [(rows[from + 3] % 256) as u8, (rows[from + 4] % 256) as u8];
+        let from = ROW * source(up, x, y, i);
+        let bytes = [(rows[from + AT_KIND] % 256) as u8, (rows[from + AT_NODE] % 256) as u8];
         at = text::put_word(list, at, &bytes);
         i += 1;
     }
@@ -79,20 +78,7 @@ fn put_list(
     ensures { λ r. ⌜ Put (now (list .entry)) 0 (listOf nodes (table n (stepAt (now (rows .entry)) up x y))) (now (list .exit)) r × (r ≡ 2 * n + 12) ⌝ }
 {
     let at = put_records(list, rows, n, up, x, y);
-    let trailer = [
-        0u8,
-        0,
-        0,
-        0,
-        (n % 256) as u8,
-        (n / 256) as u8,
-        0,
-        0,
-        nodes,
-        0,
-        0x4D,
-        0x41,
-    ];
+    let trailer = lists::trailer_bytes(n, nodes);
     text::put_word(list, at, &trailer)
 }
 
@@ -103,7 +89,7 @@ fn run_moved(rows: &[u64], n: usize, nodes: u8, up: bool, x: usize, y: usize, ou
 {
     let mut list = [0u8; lists::LONGEST];
     let length = put_list(&mut list, rows, n, nodes, up, x, y);
-    runner::run(&list[..length], out) - NO_WRITES
+    runner::run(&list[..length], out) - runner::NO_WRITES
 }
 
 // Runs the merge at hand. Gives the number of writes, and leaves answers and history in the buffer. No record is moved by an exchange behind the last.
@@ -129,7 +115,7 @@ pub fn parting(
         × AtHand nodes (now rows) n (now mine) writes ⌝ }
     ensures { λ r. ⌜ r ≡ partingOf nodes (rowsIn (now (rows .entry)) n) up x y ⌝ }
 {
-    let mut theirs = [0u8; LONGEST_OUT];
+    let mut theirs = [0u8; runner::LONGEST_OUT];
     let others = run_moved(rows, n, nodes, up, x, y, &mut theirs);
     partings::difference(&mine[n..], writes as usize, &theirs[n..], others as usize)
 }
@@ -141,11 +127,11 @@ fn passes(rows: &[u64], bound: u64, up: bool, m: usize, z: usize) -> bool
     requires { ⌜ (5 * m + 5 ≤ length (now rows)) × (5 * z + 5 ≤ length (now rows)) ⌝ }
     ensures { λ r. ⌜ r ≡ mayPass bound up (rowIn (now (rows .entry)) m) (rowIn (now (rows .entry)) z) ⌝ }
 {
-    let other = rows[5 * z + 1] != rows[5 * m + 1];
+    let other = rows[ROW * z + AT_LOG] != rows[ROW * m + AT_LOG];
     if up {
-        return other & records::may_precede(rows[5 * m + 2], rows[5 * z + 2], bound);
+        return other & records::may_precede(rows[ROW * m + AT_TIME], rows[ROW * z + AT_TIME], bound);
     }
-    other & records::may_precede(rows[5 * z + 2], rows[5 * m + 2], bound)
+    other & records::may_precede(rows[ROW * z + AT_TIME], rows[ROW * m + AT_TIME], bound)
 }
 
 // Whether record m may pass all from a start to an end.

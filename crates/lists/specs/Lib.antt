@@ -9,3 +9,4 @@ pub mod Trails
 pub mod Stores
 pub mod Written
 pub mod Sample
+pub mod Made

@@ -4,6 +4,7 @@ ghost use Prim.Native.Nat.{_+_, _*_, _≤_, _<_};
 ghost use lib.ListN.{length};
 ghost use lib.Seq.{sets};
 ghost use Rattle.lists.specs.EventList.{byteAt, numberAt, refusal, eventAt, recordAt, firstRecord, entryBytes};
+ghost use Rattle.lists.specs.Made.{trailerBytes};
 ghost use Rattle.lists.specs.Reads.{eventOf, trailerOf};
 ghost use Rattle.lists.specs.Entries.{entryAt};
 ghost use Rattle.parts.specs.Hold.{holdWrite};
@@ -102,6 +103,27 @@ pub fn read_trailer(list: &[u8]) -> Trailer
         records: 0,
         nodes: 0,
     }
+}
+
+// The trailer of a list whose first record stands at its start.
+pub fn trailer_bytes(records: usize, nodes: u8) -> [u8; TRAILER_LENGTH]
+    requires { ⌜ records ≤ 32762 ⌝ }
+    ensures { λ r. ⌜ r ≡ trailerBytes records nodes ⌝ }
+{
+    [
+        0u8,
+        0,
+        0,
+        0,
+        (records % 256) as u8,
+        (records / 256) as u8,
+        0,
+        0,
+        nodes,
+        0,
+        0x4D,
+        0x41,
+    ]
 }
 
 // ---- the records

@@ -19,27 +19,27 @@ use Rattle.logtext.specs.Text.{lines, lineOf}
 use Rattle.logtext.specs.Numbers.{first-true, both-true}
 use Rattle.logtext.specs.Log.{mostRecords, Row, fits, rowOn, Part, after, part, Reading, badHead, noHead, headOn, headed, readLines, readText}
 
-pub fits-few : (count k : ℕ) (l : Line) → count ≤ mostRecords → fits count l ≡ true → count + length (rowOn k l) ≤ mostRecords
-fits-few count k Blank h e = omega arith
-fits-few count k (Two a b) h e = omega arith
-fits-few count k (Four a b c d) h e = go (ltb count mostRecords) refl e
+pub fits-few : (records k : ℕ) (l : Line) → records ≤ mostRecords → fits records l ≡ true → records + length (rowOn k l) ≤ mostRecords
+fits-few records k Blank h e = omega arith
+fits-few records k (Two a b) h e = omega arith
+fits-few records k (Four a b c d) h e = go (ltb records mostRecords) refl e
   where
-    go : (x : Bool) → ltb count mostRecords ≡ x → x && leb c 255 && leb d 255 ≡ true → count + 1 ≤ mostRecords
-    go true i u = let z = ltb-true count mostRecords i in omega arith
+    go : (x : Bool) → ltb records mostRecords ≡ x → x && leb c 255 && leb d 255 ≡ true → records + 1 ≤ mostRecords
+    go true i u = let z = ltb-true records mostRecords i in omega arith
     go false i u = absurd (let z : _≡_ {A = ℕ} 0 1 = cc in omega arith)
-fits-few count k Other h e = omega arith
+fits-few records k Other h e = omega arith
 
-part-few : (count k : ℕ) (ls : List (List ℕ)) → count ≤ mostRecords → count + length (part count k ls .rows) ≤ mostRecords
+part-few : (records k : ℕ) (ls : List (List ℕ)) → records ≤ mostRecords → records + length (part records k ls .rows) ≤ mostRecords
 unfolding part
-part-few count k [] h = omega arith
-part-few count k (l ∷ ls) h = go (fits count (lineOf l)) refl (part-few (count + length (rowOn k (lineOf l))) (suc k) ls)
+part-few records k [] h = omega arith
+part-few records k (l ∷ ls) h = go (fits records (lineOf l)) refl (part-few (records + length (rowOn k (lineOf l))) (suc k) ls)
   where
     rest : Part
-    rest = part (count + length (rowOn k (lineOf l))) (suc k) ls
+    rest = part (records + length (rowOn k (lineOf l))) (suc k) ls
 
-    go : (b : Bool) → fits count (lineOf l) ≡ b → (count + length (rowOn k (lineOf l)) ≤ mostRecords → count + length (rowOn k (lineOf l)) + length (rest .rows) ≤ mostRecords)
-        → count + length (after b k (rowOn k (lineOf l)) rest .rows) ≤ mostRecords
-    go true e f = let z = f (fits-few count k (lineOf l) h e) in let n = length-append (rowOn k (lineOf l)) (rest .rows) in omega arith
+    go : (b : Bool) → fits records (lineOf l) ≡ b → (records + length (rowOn k (lineOf l)) ≤ mostRecords → records + length (rowOn k (lineOf l)) + length (rest .rows) ≤ mostRecords)
+        → records + length (after b k (rowOn k (lineOf l)) rest .rows) ≤ mostRecords
+    go true e f = let z = f (fits-few records k (lineOf l) h e) in let n = length-append (rowOn k (lineOf l)) (rest .rows) in omega arith
     go false e f = omega arith
 
 -- What holds of every text whose head is refused, and of every other, holds of all.
@@ -108,25 +108,25 @@ good-nodes text = each-reading (λ r. r .refused ≡ 0 → 1 ≤ r .nodes) (λ k
 abbrev Small : Row → Type 0
 Small r = (r .logged .event .kind < 256) × (r .logged .event .node < 256)
 
-small-on : (count k : ℕ) (l : Line) → fits count l ≡ true → All Small (rowOn k l)
-small-on count k Blank e = tt
-small-on count k (Two a b) e = tt
-small-on count k (Four a b c d) e =
-    let x = leb-true c 255 (both-true (ltb count mostRecords) (leb c 255) (first-true (ltb count mostRecords && leb c 255) (leb d 255) e)) in
-    let y = leb-true d 255 (both-true (ltb count mostRecords && leb c 255) (leb d 255) e) in
+small-on : (records k : ℕ) (l : Line) → fits records l ≡ true → All Small (rowOn k l)
+small-on records k Blank e = tt
+small-on records k (Two a b) e = tt
+small-on records k (Four a b c d) e =
+    let x = leb-true c 255 (both-true (ltb records mostRecords) (leb c 255) (first-true (ltb records mostRecords && leb c 255) (leb d 255) e)) in
+    let y = leb-true d 255 (both-true (ltb records mostRecords && leb c 255) (leb d 255) e) in
     ((omega arith, omega arith), tt)
-small-on count k Other e = tt
+small-on records k Other e = tt
 
-small-part : (count k : ℕ) (ls : List (List ℕ)) → All Small (part count k ls .rows)
+small-part : (records k : ℕ) (ls : List (List ℕ)) → All Small (part records k ls .rows)
 unfolding part
-small-part count k [] = tt
-small-part count k (l ∷ ls) = go (fits count (lineOf l)) refl (small-part (count + length (rowOn k (lineOf l))) (suc k) ls)
+small-part records k [] = tt
+small-part records k (l ∷ ls) = go (fits records (lineOf l)) refl (small-part (records + length (rowOn k (lineOf l))) (suc k) ls)
   where
     rest : Part
-    rest = part (count + length (rowOn k (lineOf l))) (suc k) ls
+    rest = part (records + length (rowOn k (lineOf l))) (suc k) ls
 
-    go : (b : Bool) → fits count (lineOf l) ≡ b → All Small (rest .rows) → All Small (after b k (rowOn k (lineOf l)) rest .rows)
-    go true e s = all-append Small (rowOn k (lineOf l)) (rest .rows) (small-on count k (lineOf l) e) s
+    go : (b : Bool) → fits records (lineOf l) ≡ b → All Small (rest .rows) → All Small (after b k (rowOn k (lineOf l)) rest .rows)
+    go true e s = all-append Small (rowOn k (lineOf l)) (rest .rows) (small-on records k (lineOf l) e) s
     go false e s = tt
 
 small-steps : (rows : List Row) → All Small rows → All (λ e. (e .kind < 256) × (e .node < 256)) (map (λ r. r .logged .event) rows)

@@ -29,10 +29,10 @@ pub record Row : Type 0 where
 
 -- Whether a line may stand behind that many records.
 abbrev pub fits : ℕ → Line → Bool
-fits count Blank = true
-fits count (Two a b) = false
-fits count (Four log time kind node) = ltb count mostRecords && leb kind 255 && leb node 255
-fits count Other = false
+fits records Blank = true
+fits records (Two a b) = false
+fits records (Four log time kind node) = ltb records mostRecords && leb kind 255 && leb node 255
+fits records Other = false
 
 -- The record on a line, if there is one.
 abbrev pub rowOn : ℕ → Line → List Row
@@ -58,8 +58,8 @@ after false k rows p = record { refused = k; rows = [] }
 
 -- The lines from number k on, behind that many records.
 unfoldable pub part : ℕ → ℕ → List (List ℕ) → Part
-part count k [] = record { refused = 0; rows = [] }
-part count k (l ∷ ls) = after (fits count (lineOf l)) k (rowOn k (lineOf l)) (part (count + length (rowOn k (lineOf l))) (suc k) ls)
+part records k [] = record { refused = 0; rows = [] }
+part records k (l ∷ ls) = after (fits records (lineOf l)) k (rowOn k (lineOf l)) (part (records + length (rowOn k (lineOf l))) (suc k) ls)
 
 -- ---- the whole text
 
@@ -105,4 +105,4 @@ numbersIn [] = []
 numbersIn (r ∷ rows) = rowNumbers r ++ numbersIn rows
 
 abbrev pub logOf : Reading → Log
-logOf r = record { refused = r .refused; nodes = r .nodes; bound = r .bound; count = length (r .rows) }
+logOf r = record { refused = r .refused; nodes = r .nodes; bound = r .bound; records = length (r .rows) }

@@ -77,28 +77,28 @@ five-stores l i a b c d e =
 -- ---- one line
 
 -- What taking a line leaves: its record behind the others, if the line fits.
-pub record Took (count k : ℕ) (line : Line) (before after : List ℕ) (t : Taken) : Type 0 where
-  pub fitting : t .fits ≡ fits count line
-  pub counted : t .fits ≡ true → t .count ≡ count + length (rowOn k line)
-  pub put : t .fits ≡ true → Put before (5 * count) (numbersIn (rowOn k line)) after (5 * t .count)
+pub record Took (records k : ℕ) (line : Line) (before after : List ℕ) (t : Taken) : Type 0 where
+  pub fitting : t .fits ≡ fits records line
+  pub counted : t .fits ≡ true → t .records ≡ records + length (rowOn k line)
+  pub put : t .fits ≡ true → Put before (5 * records) (numbersIn (rowOn k line)) after (5 * t .records)
   pub kept : t .fits ≡ false → after ≡ before
 
 -- A line without a record.
-pub took-none : (count k : ℕ) (l : List ℕ) {line : Line} (b : Bool) → fits count line ≡ b → (b ≡ true → rowOn k line ≡ []) → Took count k line l l (record { fits = b; count = count })
+pub took-none : (records k : ℕ) (l : List ℕ) {line : Line} (b : Bool) → fits records line ≡ b → (b ≡ true → rowOn k line ≡ []) → Took records k line l l (record { fits = b; records = records })
 unfolding numbersIn
-took-none count k l {line} b e f = record {
+took-none records k l {line} b e f = record {
   fitting = sym e;
   counted = λ t. let z = ap length (f t) in omega arith;
-  put = λ t. rw (f t) (put-none l (5 * count));
+  put = λ t. rw (f t) (put-none l (5 * records));
   kept = λ t. refl;
 }
 
-module _ (count k : ℕ) (l : List ℕ) {line : Line} {log time kind node : ℕ} (is : line ≡ Four log time kind node) where
-  pub took-bad : ltb count mostRecords && leb kind 255 && leb node 255 ≡ false → Took count k line l l (record { fits = false; count = count })
-  took-bad e = took-none count k l false (ap (fits count) is ∙ e) (λ t. absurd (true≢false (sym t)))
+module _ (records k : ℕ) (l : List ℕ) {line : Line} {log time kind node : ℕ} (is : line ≡ Four log time kind node) where
+  pub took-bad : ltb records mostRecords && leb kind 255 && leb node 255 ≡ false → Took records k line l l (record { fits = false; records = records })
+  took-bad e = took-none records k l false (ap (fits records) is ∙ e) (λ t. absurd (true≢false (sym t)))
 
-  pub took-row : ltb count mostRecords && leb kind 255 && leb node 255 ≡ true → {m : List ℕ} → m ≡ sets l (5 * count) (k ∷ log ∷ time ∷ kind ∷ node ∷ [])
-      → Took count k line l m (record { fits = true; count = count + 1 })
+  pub took-row : ltb records mostRecords && leb kind 255 && leb node 255 ≡ true → {m : List ℕ} → m ≡ sets l (5 * records) (k ∷ log ∷ time ∷ kind ∷ node ∷ [])
+      → Took records k line l m (record { fits = true; records = records + 1 })
   unfolding numbersIn
   took-row e {m} s = rw is (record {
     fitting = sym e;
@@ -115,49 +115,49 @@ pub record ReadPart (p : Part) (before after : List ℕ) (r n : ℕ) : Type 0 wh
   pub content : after ≡ sets before 0 (numbersIn (p .rows))
 
 -- The lines before line k are read; it starts at a place.
-pub record Going (text : List ℕ) (start first : ℕ) (before rows : List ℕ) (at k count : ℕ) : Type 0 where
+pub record Going (text : List ℕ) (start first : ℕ) (before rows : List ℕ) (at k records : ℕ) : Type 0 where
   pub done : List Row
   pub place : at ≤ length text + 1
   pub number : k ≤ at + 1
-  pub few : count ≤ mostRecords
-  pub counted : count ≡ length done
-  pub put : Put before 0 (numbersIn done) rows (5 * count)
-  pub going : behind done (part count k (linesFrom text at)) ≡ part 0 first (linesFrom text start)
+  pub few : records ≤ mostRecords
+  pub counted : records ≡ length done
+  pub put : Put before 0 (numbersIn done) rows (5 * records)
+  pub going : behind done (part records k (linesFrom text at)) ≡ part 0 first (linesFrom text start)
 
 pub going-starts : (text : List ℕ) (start first : ℕ) (before : List ℕ) → start ≤ length text + 1 → first ≤ start + 1 → Going text start first before before start first 0
 unfolding numbersIn
 going-starts text start first before h n = record { done = []; place = h; number = n; few = omega arith; counted = refl; put = put-none before 0; going = refl }
 
-module _ {text : List ℕ} {start first : ℕ} {before rows : List ℕ} {at k count : ℕ} (g : Going text start first before rows at k count) where
+module _ {text : List ℕ} {start first : ℕ} {before rows : List ℕ} {at k records : ℕ} (g : Going text start first before rows at k records) where
   -- All of them are read, as far as the lines are good.
-  all-read : {r : ℕ} → record { refused = r; rows = g .done ++ [] } ≡ part 0 first (linesFrom text start) → ReadPart (part 0 first (linesFrom text start)) before rows r count
+  all-read : {r : ℕ} → record { refused = r; rows = g .done ++ [] } ≡ part 0 first (linesFrom text start) → ReadPart (part 0 first (linesFrom text start)) before rows r records
   all-read {r} e =
       let all : g .done ≡ part 0 first (linesFrom text start) .rows = sym (append-nil (g .done)) ∙ ap (λ (p : Part). p .rows) e in
       record { stopped = ap (λ (p : Part). p .refused) e; counted = g .counted ∙ ap length all; content = g .put .content ∙ ap (λ (l : List Row). sets before 0 (numbersIn l)) all }
 
-  pub going-ends : length text < at → ReadPart (part 0 first (linesFrom text start)) before rows 0 count
+  pub going-ends : length text < at → ReadPart (part 0 first (linesFrom text start)) before rows 0 records
   unfolding part
   going-ends h =
       let end : linesFrom text at ≡ [] = rw (lt-leb at (length text) h) in
-      all-read (ap (λ (ls : List (List ℕ)). behind (g .done) (part count k ls)) (sym end) ∙ g .going)
+      all-read (ap (λ (ls : List (List ℕ)). behind (g .done) (part records k ls)) (sym end) ∙ g .going)
 
   module _ (h : at ≤ length text) {end : ℕ} (s : Sought (λ k. isNewline (getD text k 0)) at (length text) end)
-      {line : Line} (is : line ≡ lineOf (take (end - at) (drop at text))) {rows′ : List ℕ} {t : Taken} (took : Took count k line rows rows′ t) where
+      {line : Line} (is : line ≡ lineOf (take (end - at) (drop at text))) {rows′ : List ℕ} {t : Taken} (took : Took records k line rows rows′ t) where
     rest : Part
-    rest = part (count + length (rowOn k line)) (suc k) (linesFrom text (end + 1))
+    rest = part (records + length (rowOn k line)) (suc k) (linesFrom text (end + 1))
 
     next : behind (g .done) (after (t .fits) k (rowOn k line) rest) ≡ part 0 first (linesFrom text start)
     unfolding part rest
     next =
-        ap (λ (b : Bool). behind (g .done) (after b k (rowOn k line) (part (count + length (rowOn k line)) (suc k) (linesFrom text (end + 1))))) (took .fitting)
-        ∙ ap (λ (x : Line). behind (g .done) (after (fits count x) k (rowOn k x) (part (count + length (rowOn k x)) (suc k) (linesFrom text (end + 1))))) is
-        ∙ ap (λ (ls : List (List ℕ)). behind (g .done) (part count k ls)) (sym (lines-more text at end h s))
+        ap (λ (b : Bool). behind (g .done) (after b k (rowOn k line) (part (records + length (rowOn k line)) (suc k) (linesFrom text (end + 1))))) (took .fitting)
+        ∙ ap (λ (x : Line). behind (g .done) (after (fits records x) k (rowOn k x) (part (records + length (rowOn k x)) (suc k) (linesFrom text (end + 1))))) is
+        ∙ ap (λ (ls : List (List ℕ)). behind (g .done) (part records k ls)) (sym (lines-more text at end h s))
         ∙ g .going
 
-    pub going-stops : t .fits ≡ false → ReadPart (part 0 first (linesFrom text start)) before rows′ k count
+    pub going-stops : t .fits ≡ false → ReadPart (part 0 first (linesFrom text start)) before rows′ k records
     going-stops e = rw (took .kept e) (all-read (ap (λ (b : Bool). behind (g .done) (after b k (rowOn k line) rest)) (sym e) ∙ next))
 
-    pub going-more : t .fits ≡ true → Going text start first before rows′ (end + 1) (k + 1) (t .count)
+    pub going-more : t .fits ≡ true → Going text start first before rows′ (end + 1) (k + 1) (t .records)
     unfolding rest
     going-more e =
         let n = took .counted e in
@@ -168,7 +168,7 @@ module _ {text : List ℕ} {start first : ℕ} {before rows : List ℕ} {at k co
           done = g .done ++ rowOn k line;
           place = omega arith;
           number = omega arith;
-          few = rw n (fits-few count k line (g .few) (sym (took .fitting) ∙ e));
+          few = rw n (fits-few records k line (g .few) (sym (took .fitting) ∙ e));
           counted = n ∙ (let z = g .counted in let y = length-append (g .done) (rowOn k line) in omega arith);
           put = rw (numbers-both (g .done) (rowOn k line)) (put-then (g .put) (took .put e));
           going = ap₂ (λ (c j : ℕ). behind (g .done ++ rowOn k line) (part c j (linesFrom text (end + 1)))) n (add-one k)
@@ -244,14 +244,14 @@ module _ {text before rows : List ℕ} {at k : ℕ} (g : Skipping text before ro
         refused (ap (λ (b : Bool). cond b (record { refused = tail .refused; nodes = head .nodes; bound = head .bound; rows = tail .rows }) (badHead k)) (sym e) ∙ with-head f)
 
     pub head-good : head .good ≡ true → {after : List ℕ} {r n : ℕ} → ReadPart (part 0 (k + 1) (linesFrom text (end + 1))) rows after r n
-        → ReadAll text before after (record { refused = r; nodes = head .nodes; bound = head .bound; count = n })
+        → ReadAll text before after (record { refused = r; nodes = head .nodes; bound = head .bound; records = n })
     unfolding tail
     head-good e {after} {r} {n} p =
         let some : head .empty ≡ false = ap (λ (x : Head). x .empty) says ∙ good-some line (sym (ap (λ (x : Head). x .good) says) ∙ e) in
         let good : record { refused = tail .refused; nodes = head .nodes; bound = head .bound; rows = tail .rows } ≡ readText text =
         ap (λ (b : Bool). cond b (record { refused = tail .refused; nodes = head .nodes; bound = head .bound; rows = tail .rows }) (badHead k)) (sym e) ∙ with-head some in
         let q : ReadPart tail rows after r n = rw (add-one k) at p in (
-          ap₂ (λ (x y : ℕ). record { refused = x; nodes = head .nodes; bound = head .bound; count = y }) (q .stopped) (q .counted) ∙ ap logOf good,
+          ap₂ (λ (x y : ℕ). record { refused = x; nodes = head .nodes; bound = head .bound; records = y }) (q .stopped) (q .counted) ∙ ap logOf good,
           q .content ∙ ap₂ (λ (l : List ℕ) (t : Reading). sets l 0 (numbersIn (t .rows))) (g .same) good,
         )
 

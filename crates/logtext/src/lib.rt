@@ -15,11 +15,12 @@ ghost use Rattle.logtext.specs.Reads.{rowRoom, Took, linesFrom, ReadPart
 // The most bytes that a text has.
 pub const LONGEST: usize = 2097152;
 
-// The most records that a log has.
-pub const MOST_RECORDS: usize = 32762;
-
-// How many numbers a record takes: its line, log, time, kind and node.
+// How many numbers a record takes, and where each stands: its line first.
 pub const ROW: usize = 5;
+pub const AT_LOG: usize = 1;
+pub const AT_TIME: usize = 2;
+pub const AT_KIND: usize = 3;
+pub const AT_NODE: usize = 4;
 
 // Room for the records of the longest log.
 pub const ROOM: usize = 163810;
@@ -41,7 +42,7 @@ pub enum Line {
 // Whether a line fits, and how many records there are with it.
 struct Taken {
     fits: bool,
-    count: usize,
+    records: usize,
 }
 
 // What the first line says, if it is not empty and good.
@@ -55,7 +56,7 @@ struct Head {
 // Which line is refused, or 0; and how many records stand before it.
 struct Rows {
     refused: usize,
-    count: usize,
+    records: usize,
 }
 
 // The same, with what the first line says. All 0 where that is refused.
@@ -63,7 +64,7 @@ pub struct Log {
     pub refused: usize,
     pub nodes: u8,
     pub bound: u64,
-    pub count: usize,
+    pub records: usize,
 }
 
 // ---- bytes
@@ -176,41 +177,41 @@ fn put_row(rows: &mut [u64], at: usize, line: u64, log: u64, time: u64, kind: u6
     ensures { λ _. ⌜ now (rows .exit) ≡ sets (now (rows .entry)) at (line ∷ log ∷ time ∷ kind ∷ node ∷ []) ⌝ }
 {
     rows[at] = line;
-    rows[at + 1] = log;
-    rows[at + 2] = time;
-    rows[at + 3] = kind;
-    rows[at + 4] = node;
+    rows[at + AT_LOG] = log;
+    rows[at + AT_TIME] = time;
+    rows[at + AT_KIND] = kind;
+    rows[at + AT_NODE] = node;
 }
 
 // Line number k, behind that many records.
-fn take_line(line: Line, k: usize, rows: &mut [u64], count: usize) -> Taken
-    requires { ⌜ (count ≤ mostRecords) × (length (now rows) ≡ rowRoom) ⌝ }
-    ensures { λ r. ⌜ Took count k line (now (rows .entry)) (now (rows .exit)) r ⌝ }
+fn take_line(line: Line, k: usize, rows: &mut [u64], records: usize) -> Taken
+    requires { ⌜ (records ≤ mostRecords) × (length (now rows) ≡ rowRoom) ⌝ }
+    ensures { λ r. ⌜ Took records k line (now (rows .entry)) (now (rows .exit)) r ⌝ }
 {
     match line {
         Line::Blank => Taken {
             fits: true,
-            count: count,
+            records: records,
         },
         Line::Two(_, _) => Taken {
             fits: false,
-            count: count,
+            records: records,
         },
         Line::Other => Taken {
             fits: false,
-            count: count,
+            records: records,
         },
         Line::Four(log, time, kind, node) => {
-            if (count < MOST_RECORDS) & (kind <= 255) & (node <= 255) {
-                put_row(rows, ROW * count, k as u64, log, time, kind, node);
+            if (records < lists::MOST_RECORDS) & (kind <= 255) & (node <= 255) {
+                put_row(rows, ROW * records, k as u64, log, time, kind, node);
                 return Taken {
                     fits: true,
-                    count: count + 1,
+                    records: records + 1,
                 };
             }
             Taken {
                 fits: false,
-                count: count,
+                records: records,
             }
         }
     }
@@ -219,27 +220,27 @@ fn take_line(line: Line, k: usize, rows: &mut [u64], count: usize) -> Taken
 // The records from line number `first` on, which starts at a place.
 fn read_rows(text: &[u8], start: usize, first: usize, rows: &mut [u64]) -> Rows
     requires { ⌜ (length (now text) ≤ longestText) × (start ≤ length (now text) + 1) × (first ≤ start + 1) × (length (now rows) ≡ rowRoom) ⌝ }
-    ensures { λ r. ⌜ ReadPart (part 0 first (linesFrom (now (text .entry)) start)) (now (rows .entry)) (now (rows .exit)) (r .refused) (r .count) ⌝ }
+    ensures { λ r. ⌜ ReadPart (part 0 first (linesFrom (now (text .entry)) start)) (now (rows .entry)) (now (rows .exit)) (r .refused) (r .records) ⌝ }
 {
     let mut at = start;
     let mut k = first;
-    let mut count: usize = 0;
+    let mut records: usize = 0;
     while at <= text.len() {
         let end = line_end(text, at);
-        let taken = take_line(line_of(&text[at..end]), k, rows, count);
+        let taken = take_line(line_of(&text[at..end]), k, rows, records);
         if !taken.fits {
             return Rows {
                 refused: k,
-                count: count,
+                records: records,
             };
         }
-        count = taken.count;
+        records = taken.records;
         at = end + 1;
         k += 1;
     }
     Rows {
         refused: 0,
-        count: count,
+        records: records,
     }
 }
 
@@ -293,7 +294,7 @@ pub fn read_log(text: &[u8], rows: &mut [u64; ROOM]) -> Log
                 refused: read.refused,
                 nodes: head.nodes,
                 bound: head.bound,
-                count: read.count,
+                records: read.records,
             };
         }
         if !head.empty {
@@ -301,7 +302,7 @@ pub fn read_log(text: &[u8], rows: &mut [u64; ROOM]) -> Log
                 refused: k,
                 nodes: 0,
                 bound: 0,
-                count: 0,
+                records: 0,
             };
         }
         at = end + 1;
@@ -311,6 +312,6 @@ pub fn read_log(text: &[u8], rows: &mut [u64; ROOM]) -> Log
         refused: 1,
         nodes: 0,
         bound: 0,
-        count: 0,
+        records: 0,
     }
 }

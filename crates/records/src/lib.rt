@@ -6,6 +6,11 @@ ghost use lib.ListN.{length};
 ghost use Rattle.text.specs.Put.{Put};
 ghost use Rattle.records.specs.Rows.{rowIn};
 ghost use Rattle.records.specs.PairLine.{pairLine};
+use logtext::AT_KIND;
+use logtext::AT_LOG;
+use logtext::AT_NODE;
+use logtext::ROW;
+use logtext::AT_TIME;
 
 // Whether a record of this time may stand before one of the other. The sum could be too large for a number of the machine.
 pub fn may_precede(time: u64, other: u64, bound: u64) -> bool
@@ -22,21 +27,21 @@ pub fn put_pair(buf: &mut [u8], at: usize, rows: &[u64], x: usize, y: usize, bou
     requires { ⌜ (5 * x + 5 ≤ length (now rows)) × (5 * y + 5 ≤ length (now rows)) × (at + 256 ≤ length (now buf)) ⌝ }
     ensures { λ r. ⌜ Put (now (buf .entry)) at (pairLine bound (rowIn (now (rows .entry)) x) (rowIn (now (rows .entry)) y)) (now (buf .exit)) r × (r ≤ at + 256) ⌝ }
 {
-    let i = 5 * x;
-    let j = 5 * y;
+    let i = ROW * x;
+    let j = ROW * y;
     let numbers = [
         rows[i],
-        rows[i + 1],
-        rows[i + 2],
-        rows[i + 3],
-        rows[i + 4],
+        rows[i + AT_LOG],
+        rows[i + AT_TIME],
+        rows[i + AT_KIND],
+        rows[i + AT_NODE],
         rows[j],
-        rows[j + 1],
-        rows[j + 2],
-        rows[j + 3],
-        rows[j + 4],
+        rows[j + AT_LOG],
+        rows[j + AT_TIME],
+        rows[j + AT_KIND],
+        rows[j + AT_NODE],
     ];
-    if may_precede(rows[i + 2], rows[j + 2], bound) {
+    if may_precede(rows[i + AT_TIME], rows[j + AT_TIME], bound) {
         return text::put_line(buf, at, b"doubt", &numbers);
     }
     text::put_line(buf, at, b"against", &numbers)

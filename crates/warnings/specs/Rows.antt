@@ -15,7 +15,7 @@ use Rattle.logtext.specs.Known.{few-rows, few-nodes, good-nodes, small-rows}
 use Rattle.logtext.specs.Reads.{rowRoom}
 use Rattle.logtext.specs.declared.Log.{Log}
 use Rattle.records.specs.Rows.{noRow, rowIn, rowsIn, stepsOf}
-use Rattle.exchanges.specs.Bytes.{Small}
+use Rattle.lists.specs.Made.{Small}
 use Rattle.laws.specs.All.{All}
 use Rattle.warnings.specs.Words as W
 use Rattle.warnings.specs.Answer.{logText, answer}
@@ -67,16 +67,16 @@ module _ (text : List ℕ) {r : Log} (e : r ≡ logOf (readText text)) (before a
   pub read-size : length after ≡ rowRoom
   read-size = ap length o ∙ length-sets before 0 (numbersIn (readText text .rows)) ∙ size
 
-  rows-here : rowsIn after (r .count) ≡ readText text .rows
+  rows-here : rowsIn after (r .records) ≡ readText text .rows
   rows-here =
       let few = few-rows text in
-      ap (λ (x : Log). rowsIn after (x .count)) e ∙ rows-said (readText text .rows) before after (omega arith) o
+      ap (λ (x : Log). rowsIn after (x .records)) e ∙ rows-said (readText text .rows) before after (omega arith) o
 
-  pub read-known : r .refused ≡ 0 → Known (r .nodes) after (r .count)
+  pub read-known : r .refused ≡ 0 → Known (r .nodes) after (r .records)
   read-known d =
       let n = ap (λ (x : Log). x .nodes) e in
       let few = few-rows text in
-      let y = ap (λ (x : Log). x .count) e in
+      let y = ap (λ (x : Log). x .records) e in
       let w = read-size in
       let low = good-nodes text (sym (ap (λ (x : Log). x .refused) e) ∙ d) in
       let high = few-nodes text in
@@ -94,7 +94,7 @@ module _ (text : List ℕ) {r : Log} (e : r ≡ logOf (readText text)) (before a
       let is = ap (λ (x : Log). x .refused) e in
       rw (le-leb (length text) longestText h, ← is, ne-eqb (r .refused) 0 d)
 
-  pub read-good : length text ≤ longestText → r .refused ≡ 0 → logText (r .nodes) (r .bound) (rowsIn after (r .count)) ≡ answer text
+  pub read-good : length text ≤ longestText → r .refused ≡ 0 → logText (r .nodes) (r .bound) (rowsIn after (r .records)) ≡ answer text
   unfolding answer
   read-good h d =
       let none : readText text .refused ≡ 0 = sym (ap (λ (x : Log). x .refused) e) ∙ d in

@@ -37,14 +37,14 @@ longest = 8192
 -- ---- the loop
 
 -- These places say the pairs.
-pub record Say (ps : List Pair) (places : List ℕ) (count : ℕ) : Type 0 where
-  pub all : count ≡ length ps
-  pub room : 2 * count ≤ length places
-  pub are : (i : ℕ) → i < count → getD ps i noPair ≡ pairIn places i
+pub record Say (ps : List Pair) (places : List ℕ) (total : ℕ) : Type 0 where
+  pub all : total ≡ length ps
+  pub room : 2 * total ≤ length places
+  pub are : (i : ℕ) → i < total → getD ps i noPair ≡ pairIn places i
 
-pub says : (ds : List Pair) {before after : List ℕ} {count : ℕ} → length before ≡ 2 * mostPairs → Found (take mostPairs ds) before after count → Say (take mostPairs ds) after count
-says ds {before} {after} {count} size f =
-    let few : count ≤ mostPairs = (let a = f .all in let z = length-take mostPairs ds in omega arith) in
+pub says : (ds : List Pair) {before after : List ℕ} {total : ℕ} → length before ≡ 2 * mostPairs → Found (take mostPairs ds) before after total → Say (take mostPairs ds) after total
+says ds {before} {after} {total} size f =
+    let few : total ≤ mostPairs = (let a = f .all in let z = length-take mostPairs ds in omega arith) in
     record { all = f .all; room = let z = put-length (f .put) in omega arith; are = pairs-said f (omega arith) }
 
 -- The first i pairs are shown.

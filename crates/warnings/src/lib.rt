@@ -104,7 +104,7 @@ fn put_log(buf: &mut [u8], rows: &[u64], n: usize, nodes: u8, bound: u64) -> usi
     if count == 0 {
         return text::put_word(buf, 0, b"same\n");
     }
-    let mut mine = [0u8; exchanges::LONGEST_OUT];
+    let mut mine = [0u8; runner::LONGEST_OUT];
     let writes = exchanges::run_at_hand(rows, n, nodes, &mut mine);
     put_doubts(buf, rows, n, nodes, bound, &found, count, &mine, writes)
 }
@@ -122,5 +122,5 @@ pub fn answer(log: &[u8], buf: &mut [u8; LONGEST_ANSWER]) -> usize
         let number = [read.refused as u64];
         return text::put_line(buf, 0, b"refused line", &number);
     }
-    put_log(buf, &rows, read.count, read.nodes, read.bound)
+    put_log(buf, &rows, read.records, read.nodes, read.bound)
 }

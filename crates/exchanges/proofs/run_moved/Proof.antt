@@ -9,7 +9,7 @@ use Rattle.seqs.specs.Tables.{table-length}
 use Rattle.runner.specs.Ran.{noWrites}
 use Rattle.text.specs.Puts.{put-length}
 use Rattle.partings.specs.Runs.{Written}
-use Rattle.exchanges.specs.Bytes.{listOf, list-length}
+use Rattle.lists.specs.Made.{listOf, list-length}
 use Rattle.exchanges.specs.Filling.{stepAt, list-read}
 use Rattle.exchanges.specs.Ran.{ran-list}
 use borrow.Author.Needs.{needs}

@@ -10,10 +10,10 @@ use Rattle.logtext.proofs.read_rows.Statement.{statement}
 use Rattle.logtext.proofs.read_rows.Tie as tie
 
 abbrev Inv-loop : tie.InvT-loop
-Inv-loop text start first rows₀ at₀ k₀ count₀ rows at k count = Going text start first rows₀ rows at k count
+Inv-loop text start first rows₀ at₀ k₀ records₀ rows at k records = Going text start first rows₀ rows at k records
 
 abbrev μ-loop : tie.MeasureT-loop
-μ-loop text start first rows₀ at₀ k₀ count₀ rows at k count = length text + 1 - at
+μ-loop text start first rows₀ at₀ k₀ records₀ rows at k records = length text + 1 - at
 
 -- src/lib.rt:212:5
 loop-holds : tie.Need-loop-holds Inv-loop μ-loop

@@ -33,7 +33,7 @@ mul-put-row c = search needs
 
 -- src/lib.rt:196:17
 put-row-requires : tie.Need-put-row-requires
-put-row-requires c κs = let z : c .before .before .before .before .before .before .args .count < 32762 = ltb-true _ _ (first-true _ _ (first-true _ _ (c .before .if1 .taken))) in let n = c .before .before .before .before .before .before .pre .1 in omega arith
+put-row-requires c κs = let z : c .before .before .before .before .before .before .args .records < 32762 = ltb-true _ _ (first-true _ _ (first-true _ _ (c .before .if1 .taken))) in let n = c .before .before .before .before .before .before .pre .1 in omega arith
 
 -- src/lib.rt:197:51
 add-t18 : tie.Need-add-t18
@@ -45,23 +45,23 @@ same-length c = search needs
 
 -- src/lib.rt:197:17
 returns : tie.Need-returns
-returns c = took-row (c .before .before .before .before .before .before .before .before .before .args .count) (c .before .before .before .before .before .before .before .before .before .args .k) (c .before .before .before .before .before .before .before .before .before .args .rows .now) (c .before .before .before .before .before .before .line .given .1) (c .before .before .before .before .if1 .taken) (c .before .before .put-row .ensures)
+returns c = took-row (c .before .before .before .before .before .before .before .before .before .args .records) (c .before .before .before .before .before .before .before .before .before .args .k) (c .before .before .before .before .before .before .before .before .before .args .rows .now) (c .before .before .before .before .before .before .line .given .1) (c .before .before .before .before .if1 .taken) (c .before .before .put-row .ensures)
 
 -- src/lib.rt:186:1
 returns-2 : tie.Need-returns-2
-returns-2 c = took-none (c .before .before .before .args .count) (c .before .before .before .args .k) (c .before .before .before .args .rows .now) true (ap (fits (c .before .before .before .args .count)) (c .enum-told .given .1)) (λ t. ap (rowOn (c .before .before .before .args .k)) (c .enum-told .given .1))
+returns-2 c = took-none (c .before .before .before .args .records) (c .before .before .before .args .k) (c .before .before .before .args .rows .now) true (ap (fits (c .before .before .before .args .records)) (c .enum-told .given .1)) (λ t. ap (rowOn (c .before .before .before .args .k)) (c .enum-told .given .1))
 
 -- src/lib.rt:186:1
 returns-3 : tie.Need-returns-3
-returns-3 c = took-none (c .before .before .before .args .count) (c .before .before .before .args .k) (c .before .before .before .args .rows .now) false (ap (fits (c .before .before .before .args .count)) (c .enum-told2 .given .1)) (λ t. absurd (true≢false (sym t)))
+returns-3 c = took-none (c .before .before .before .args .records) (c .before .before .before .args .k) (c .before .before .before .args .rows .now) false (ap (fits (c .before .before .before .args .records)) (c .enum-told2 .given .1)) (λ t. absurd (true≢false (sym t)))
 
 -- src/lib.rt:186:1
 returns-4 : tie.Need-returns-4
-returns-4 c = took-none (c .before .before .before .args .count) (c .before .before .before .args .k) (c .before .before .before .args .rows .now) false (ap (fits (c .before .before .before .args .count)) (c .enum-told3 .given .1)) (λ t. absurd (true≢false (sym t)))
+returns-4 c = took-none (c .before .before .before .args .records) (c .before .before .before .args .k) (c .before .before .before .args .rows .now) false (ap (fits (c .before .before .before .args .records)) (c .enum-told3 .given .1)) (λ t. absurd (true≢false (sym t)))
 
 -- src/lib.rt:186:1
 returns-5 : tie.Need-returns-5
-returns-5 c = took-bad (c .before .before .before .before .before .args .count) (c .before .before .before .before .before .args .k) (c .before .before .before .before .before .args .rows .now) (c .before .before .line .given .1) (c .if1 .left)
+returns-5 c = took-bad (c .before .before .before .before .before .args .records) (c .before .before .before .before .before .args .k) (c .before .before .before .before .before .args .rows .now) (c .before .before .line .given .1) (c .if1 .left)
 
 pub take-line-spec : {M : Type 1} → statement M
 take-line-spec =

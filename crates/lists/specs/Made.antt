@@ -20,11 +20,11 @@ flat [] = []
 flat (e ∷ es) = e .kind % 256 ∷ e .node % 256 ∷ flat es
 
 -- The trailer: the first record at 0, so many of them, and the node count.
-abbrev pub trailerOf : ℕ → ℕ → List ℕ
-trailerOf n count = 0 ∷ 0 ∷ 0 ∷ 0 ∷ n % 256 ∷ n / 256 ∷ 0 ∷ 0 ∷ count ∷ 0 ∷ 77 ∷ 65 ∷ []
+abbrev pub trailerBytes : ℕ → ℕ → List ℕ
+trailerBytes n count = 0 ∷ 0 ∷ 0 ∷ 0 ∷ n % 256 ∷ n / 256 ∷ 0 ∷ 0 ∷ count ∷ 0 ∷ 77 ∷ 65 ∷ []
 
 abbrev pub listOf : ℕ → List Event → List ℕ
-listOf count es = flat es ++ trailerOf (length es) count
+listOf count es = flat es ++ trailerBytes (length es) count
 
 -- Kind and node fit a byte.
 abbrev pub Small : Event → Type 0
@@ -55,15 +55,15 @@ step-said (e ∷ es) t (suc i) h small =
 
 module _ (count : ℕ) (es : List Event) (low : 1 ≤ count) (high : count ≤ 8) (few : length es ≤ 32762) where
   pub list-length : length (listOf count es) ≡ 2 * length es + 12
-  list-length = length-append (flat es) (trailerOf (length es) count) ∙ (let z = flat-length es in omega arith)
+  list-length = length-append (flat es) (trailerBytes (length es) count) ∙ (let z = flat-length es in omega arith)
 
   place : trailerAt (listOf count es) ≡ length (flat es)
   place = let z = list-length in let y = flat-length es in omega arith
 
-  byte : (k : ℕ) → byteAt (listOf count es) (trailerAt (listOf count es) + k) ≡ getD (trailerOf (length es) count) k 0
-  byte k = ap (λ (x : ℕ). byteAt (listOf count es) (x + k)) place ∙ getD-append-add (flat es) (trailerOf (length es) count) k 0
+  byte : (k : ℕ) → byteAt (listOf count es) (trailerAt (listOf count es) + k) ≡ getD (trailerBytes (length es) count) k 0
+  byte k = ap (λ (x : ℕ). byteAt (listOf count es) (x + k)) place ∙ getD-append-add (flat es) (trailerBytes (length es) count) k 0
 
-  byte-from : (j k : ℕ) → byteAt (listOf count es) (trailerAt (listOf count es) + j + k) ≡ getD (trailerOf (length es) count) (j + k) 0
+  byte-from : (j k : ℕ) → byteAt (listOf count es) (trailerAt (listOf count es) + j + k) ≡ getD (trailerBytes (length es) count) (j + k) 0
   byte-from j k = let z : trailerAt (listOf count es) + j + k ≡ trailerAt (listOf count es) + (j + k) = omega arith in ap (byteAt (listOf count es)) z ∙ byte (j + k)
 
   pub list-first : firstRecord (listOf count es) ≡ 0
@@ -104,4 +104,4 @@ module _ (count : ℕ) (es : List Event) (low : 1 ≤ count) (high : count ≤ 8
   list-records small =
       rw (list-count) (sym (table-of (length es) (recordAt (listOf count es)) es noStep refl (λ i h.
       let z : firstRecord (listOf count es) + 2 * i ≡ 2 * i = (let f = list-first in omega arith) in
-      step-said es (trailerOf (length es) count) i h small ∙ ap (eventAt (listOf count es)) (sym z))))
+      step-said es (trailerBytes (length es) count) i h small ∙ ap (eventAt (listOf count es)) (sym z))))
