@@ -13,8 +13,8 @@ ghost use Rattle.doubts.specs.Found.{mostPairs, Found};
 use logtext::AT_KIND;
 use logtext::AT_LOG;
 use logtext::AT_NODE;
-use logtext::ROW;
 use logtext::AT_TIME;
+use logtext::ROW;
 
 // Two records, by their places.
 pub struct Pair {

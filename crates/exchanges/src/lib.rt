@@ -18,8 +18,8 @@ ghost use Rattle.exchanges.specs.Ran.{AtHand};
 use logtext::AT_KIND;
 use logtext::AT_LOG;
 use logtext::AT_NODE;
-use logtext::ROW;
 use logtext::AT_TIME;
+use logtext::ROW;
 use partings::Parting;
 
 // The record that stands at place i of the exchanged merge.
@@ -57,7 +57,10 @@ fn put_records(list: &mut [u8], rows: &[u64], n: usize, up: bool, x: usize, y: u
     let mut i: usize = 0;
     while i < n {
         let from = ROW * source(up, x, y, i);
-        let bytes = [(rows[from + AT_KIND] % 256) as u8, (rows[from + AT_NODE] % 256) as u8];
+        let bytes = [
+            (rows[from + AT_KIND] % 256) as u8,
+            (rows[from + AT_NODE] % 256) as u8,
+        ];
         at = text::put_word(list, at, &bytes);
         i += 1;
     }
@@ -129,7 +132,8 @@ fn passes(rows: &[u64], bound: u64, up: bool, m: usize, z: usize) -> bool
 {
     let other = rows[ROW * z + AT_LOG] != rows[ROW * m + AT_LOG];
     if up {
-        return other & records::may_precede(rows[ROW * m + AT_TIME], rows[ROW * z + AT_TIME], bound);
+        return other
+            & records::may_precede(rows[ROW * m + AT_TIME], rows[ROW * z + AT_TIME], bound);
     }
     other & records::may_precede(rows[ROW * z + AT_TIME], rows[ROW * m + AT_TIME], bound)
 }

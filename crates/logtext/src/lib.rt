@@ -17,9 +17,13 @@ pub const LONGEST: usize = 2097152;
 
 // How many numbers a record takes, and where each stands: its line first.
 pub const ROW: usize = 5;
+
 pub const AT_LOG: usize = 1;
+
 pub const AT_TIME: usize = 2;
+
 pub const AT_KIND: usize = 3;
+
 pub const AT_NODE: usize = 4;
 
 // Room for the records of the longest log.

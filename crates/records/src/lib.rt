@@ -9,8 +9,8 @@ ghost use Rattle.records.specs.PairLine.{pairLine};
 use logtext::AT_KIND;
 use logtext::AT_LOG;
 use logtext::AT_NODE;
-use logtext::ROW;
 use logtext::AT_TIME;
+use logtext::ROW;
 
 // Whether a record of this time may stand before one of the other. The sum could be too large for a number of the machine.
 pub fn may_precede(time: u64, other: u64, bound: u64) -> bool
