@@ -51,12 +51,12 @@ try_mistakes() {
 
 # The programs for merges with the mistake in them.
 build_mutant_programs() {
-    stand_in_program compare "$mutant" && stand_in_program merge_log "$mutant" && build_programs
+    stand_in_program compare "$mutant" && stand_in_program merges "$mutant" && build_programs
 }
 
 run_mutant_programs() {
     "$out/programs" compare "$mutant/compare" "$out/scratch" &&
-        "$out/programs" merges "$mutant/merge_log" "$out/scratch"
+        "$out/programs" merges "$mutant/merges" "$out/scratch"
 }
 
 try_part() {

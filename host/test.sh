@@ -65,7 +65,7 @@ build_library() {
     if [ "$library" = stand-in ]; then
         programs=$out/stand-in
         stand_in host "$programs" && stand_in_program arbitration "$programs" &&
-            stand_in_program compare "$programs" && stand_in_program merge_log "$programs" &&
+            stand_in_program compare "$programs" && stand_in_program merges "$programs" &&
             use_library "$programs/libhoefspanker.a"
     else
         use_library "$library"
@@ -110,7 +110,7 @@ comparisons() {
     test_that "protobuf's own messages" "$out/peer" "$programs/arbitration"
     test_that "comparison of verdicts built" build_compare_verdicts
     test_that "comparison with the judge" "$out/compare-verdicts"
-    test_that "program for merged logs" "$out/programs" merges "$programs/merge_log" "$out/logs"
+    test_that "program for merged logs" "$out/programs" merges "$programs/merges" "$out/logs"
 }
 
 the_example() {

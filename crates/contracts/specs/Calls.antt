@@ -3,25 +3,25 @@ use mathlib.Core.Bool.{Bool}
 use mathlib.Core.List.{List}
 use Prim.Native.Nat.{ℕ}
 use denote.Ref.{now}
-use Rattle.state.specs.declared.State.{State}
-use Rattle.stepper.specs.declared.Stepped.{Stepped}
-use Rattle.stepper.specs.declared.Report.{Report}
-use Rattle.update.specs.declared.Arbitration.{Arbitration}
-use Rattle.comparing.specs.declared.Finding.{Finding}
-use Rattle.stepper.proofs.fresh.Reads as Fresh
-use Rattle.stepper.proofs.step.Reads as Step
-use Rattle.stepper.proofs.open_streams.Reads as OpenStreams
-use Rattle.ranges.proofs.in_range.Reads as InRange
-use Rattle.independence.proofs.independent.Reads as Independent
-use Rattle.runner.proofs.run.Reads as Run
-use Rattle.transcript.proofs.transcript.Reads as Transcript
-use Rattle.comparing.proofs.compare.Reads as Compare
-use Rattle.merging.proofs.same_merge.Reads as SameMerge
-use Rattle.report.proofs.report.Reads as Reports
-use Rattle.warnings.proofs.answer.Reads as Answer
-use Rattle.update.proofs.read.Reads as Read
-use Rattle.packed.proofs.read_into.Reads as ReadInto
-use Rattle.printout.proofs.printout.Reads as Printout
+use Rattle.step_state.specs.declared.State.{State}
+use Rattle.step.specs.declared.Stepped.{Stepped}
+use Rattle.step.specs.declared.Report.{Report}
+use Rattle.wire_arbitration.specs.declared.Arbitration.{Arbitration}
+use Rattle.merge_compare.specs.declared.Finding.{Finding}
+use Rattle.step.proofs.fresh.Reads as Fresh
+use Rattle.step.proofs.step.Reads as Step
+use Rattle.step.proofs.open_streams.Reads as OpenStreams
+use Rattle.step_range.proofs.in_range.Reads as InRange
+use Rattle.merge_independence.proofs.independent.Reads as Independent
+use Rattle.run.proofs.run.Reads as Run
+use Rattle.run_text.proofs.transcript.Reads as Transcript
+use Rattle.merge_compare.proofs.compare.Reads as Compare
+use Rattle.merge_call.proofs.same_merge.Reads as SameMerge
+use Rattle.merge_text.proofs.report.Reads as Reports
+use Rattle.log_text.proofs.answer.Reads as Answer
+use Rattle.wire_arbitration.proofs.read.Reads as Read
+use Rattle.wire_bytes.proofs.read_into.Reads as ReadInto
+use Rattle.wire_text.proofs.printout.Reads as Printout
 use Rattle.hoefspanker.proofs.hoefspanker_run.Reads as HostRun
 use Rattle.hoefspanker.proofs.hoefspanker_same_merge.Reads as HostSameMerge
 use Rattle.hoefspanker.proofs.hoefspanker_read_arbitration.Reads as HostReadArbitration

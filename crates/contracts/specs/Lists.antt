@@ -3,8 +3,8 @@ use mathlib.Core.Path.{_≡_, refl}
 use mathlib.Core.List.{List, [], _∷_, _++_}
 use Prim.Native.Nat.{ℕ}
 use lib.ListN.{replicate}
-use Rattle.text.specs.Lines.{recordLine, writesLine, writeLine}
-use Rattle.transcript.specs.Transcript.{transcript}
+use Rattle.any_text.specs.Lines.{recordLine, writesLine, writeLine}
+use Rattle.run_text.specs.Transcript.{transcript}
 use Rattle.contracts.specs.Contract.{Gives}
 use Rattle.contracts.specs.Opened.{runs, prints}
 use Rattle.contracts.specs.Calls.{RunMay, TranscriptMay}
@@ -34,7 +34,7 @@ pub run-nine-nodes : (out : List ℕ) → Gives RunMay (nineNodes, out) 10 out
 unfolding runs
 run-nine-nodes out = only-run (nineNodes, out)
 
--- What is printed for the first list, line by line. (`text/specs/Sample` has such lines in bytes.)
+-- What is printed for the first list, line by line. (`any_text/specs/Sample` has such lines in bytes.)
 abbrev printed : List ℕ
 printed =
     recordLine 1 1 1 0 ++ recordLine 2 3 2 0 ++ recordLine 3 3 1 0 ++ recordLine 4 8 1 0 ++ recordLine 5 8 1 4 ++ recordLine 6 4 1 0

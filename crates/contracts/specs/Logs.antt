@@ -2,10 +2,10 @@
 use mathlib.Core.Path.{_≡_, refl}
 use mathlib.Core.List.{List, [], _∷_, _++_}
 use Prim.Native.Nat.{ℕ}
-use Rattle.text.specs.Line.{line}
-use Rattle.report.specs.Words as R
-use Rattle.warnings.specs.Words as W
-use Rattle.warnings.specs.Answer.{answer}
+use Rattle.any_text.specs.Line.{line}
+use Rattle.merge_text.specs.Words as R
+use Rattle.log_text.specs.Words as W
+use Rattle.log_text.specs.Answer.{answer}
 use Rattle.contracts.specs.Opened.{logs}
 use Rattle.contracts.specs.Calls.{AnswerMay}
 use Rattle.contracts.specs.Only.{Puts, puts, only-answer}

@@ -4,11 +4,11 @@ use mathlib.Core.Bool.{true, false}
 use mathlib.Core.List.{List, [], _∷_, _++_}
 use Prim.Native.Nat.{ℕ}
 use lib.ListN.{replicate}
-use Rattle.text.specs.Line.{line}
-use Rattle.comparing.specs.Compare as C
-use Rattle.audit.specs.Merged.{late, early}
-use Rattle.report.specs.Words as W
-use Rattle.report.specs.Report.{report}
+use Rattle.any_text.specs.Line.{line}
+use Rattle.merge_compare.specs.Compare as C
+use Rattle.run_exchange.specs.Merged.{late, early}
+use Rattle.merge_text.specs.Words as W
+use Rattle.merge_text.specs.Report.{report}
 use Rattle.contracts.specs.Contract.{Gives}
 use Rattle.contracts.specs.Opened.{compares, reports}
 use Rattle.contracts.specs.Calls.{IndependentMay, CompareMay, SameMergeMay, ReportMay}

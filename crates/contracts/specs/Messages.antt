@@ -5,9 +5,9 @@ use mathlib.Core.List.{List, [], _∷_, _++_}
 use Prim.Native.Nat.{ℕ}
 use lib.IntN.{negsuc}
 use lib.ListN.{replicate}
-use Rattle.update.specs.Arbitration.{refused}
-use Rattle.update.specs.declared.Arbitration.{Arbitration}
-use Rattle.printout.specs.Printout as P
+use Rattle.wire_arbitration.specs.Arbitration.{refused}
+use Rattle.wire_arbitration.specs.declared.Arbitration.{Arbitration}
+use Rattle.wire_text.specs.Printout as P
 use Rattle.contracts.specs.Contract.{Gives}
 use Rattle.contracts.specs.Opened.{messages}
 use Rattle.contracts.specs.Calls.{ReadMay, ReadIntoMay, PrintoutMay}

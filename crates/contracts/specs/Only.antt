@@ -5,20 +5,20 @@ use Prim.Native.Nat.{ℕ}
 use native.Mathlib.Omega.{arith}
 use lib.ListN.{length}
 use lib.Seq.{sets}
-use Rattle.text.specs.Put.{Put}
-use Rattle.state.specs.Tidy.{stateFits}
-use Rattle.stepper.specs.Public.{stepped, freshened, reported}
-use Rattle.merges.specs.Independent.{independent}
-use Rattle.runner.specs.Ran.{ran}
-use Rattle.transcript.specs.Transcript.{transcript}
-use Rattle.comparing.specs.Compared.{compared}
-use Rattle.merging.specs.Reply.{reply}
-use Rattle.report.specs.Report.{report}
-use Rattle.warnings.specs.Answer.{answer}
-use Rattle.update.specs.Update.{reading}
-use Rattle.update.specs.Arbitration.{arbitration}
-use Rattle.packed.specs.Bytes as Packed
-use Rattle.printout.specs.Printout.{printout}
+use Rattle.any_text.specs.Put.{Put}
+use Rattle.step_state.specs.Tidy.{stateFits}
+use Rattle.step.specs.Public.{stepped, freshened, reported}
+use Rattle.rules_exchange.specs.Independent.{independent}
+use Rattle.run.specs.Ran.{ran}
+use Rattle.run_text.specs.Transcript.{transcript}
+use Rattle.merge_compare.specs.Compared.{compared}
+use Rattle.merge_call.specs.Reply.{reply}
+use Rattle.merge_text.specs.Report.{report}
+use Rattle.log_text.specs.Answer.{answer}
+use Rattle.wire_arbitration.specs.Update.{reading}
+use Rattle.wire_arbitration.specs.Arbitration.{arbitration}
+use Rattle.wire_bytes.specs.Bytes as Packed
+use Rattle.wire_text.specs.Printout.{printout}
 use Rattle.contracts.specs.Contract.{Gives, Only, only}
 use Rattle.contracts.specs.Calls.{FreshMay, StepMay, OpenStreamsMay, InRangeMay, IndependentMay, RunMay, HostRunMay, TranscriptMay, CompareMay, SameMergeMay, HostSameMergeMay, ReportMay, AnswerMay, ReadMay, ReadIntoMay, HostReadArbitrationMay, PrintoutMay}
 

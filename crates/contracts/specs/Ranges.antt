@@ -8,9 +8,9 @@ use Rattle.rules.specs.State as S
 use Rattle.rules.specs.Range.{inRange}
 use Rattle.rules.specs.Parts.{onDevice, tellPart}
 use Rattle.rules.specs.Step.{fresh}
-use Rattle.state.specs.Hold.{represent, packStream}
-use Rattle.state.specs.declared.State.{State}
-use Rattle.bridge.specs.Passes.{fits-represent}
+use Rattle.step_state.specs.Hold.{represent, packStream}
+use Rattle.step_state.specs.declared.State.{State}
+use Rattle.step_bridge.specs.Passes.{fits-represent}
 use Rattle.contracts.specs.Contract.{Gives}
 use Rattle.contracts.specs.Opened.{states}
 use Rattle.contracts.specs.Calls.{InRangeMay}

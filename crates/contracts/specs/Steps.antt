@@ -8,15 +8,15 @@ use Rattle.rules.specs.Range.{inRange}
 use Rattle.rules.specs.Step as Rules
 use Rattle.rules.specs.Step.{Event}
 use Rattle.rules.specs.Run.{run}
-use Rattle.laws.specs.Steps.{step-keeps, run-keeps}
-use Rattle.situations.specs.Situation.{Claim, Situation, Every, Holds}
-use Rattle.situations.specs.Table.{table, situations}
-use Rattle.state.specs.Hold.{hold, represent}
-use Rattle.state.specs.declared.State.{State}
-use Rattle.bridge.specs.Held.{hold-represent}
-use Rattle.bridge.specs.Passes.{fits-represent}
-use Rattle.stepper.specs.Public.{written, stepped}
-use Rattle.stepper.specs.declared.Stepped.{Stepped}
+use Rattle.rules_laws.specs.Steps.{step-keeps, run-keeps}
+use Rattle.rules_cases.specs.Situation.{Claim, Situation, Every, Holds}
+use Rattle.rules_cases.specs.Table.{table, situations}
+use Rattle.step_state.specs.Hold.{hold, represent}
+use Rattle.step_state.specs.declared.State.{State}
+use Rattle.step_bridge.specs.Held.{hold-represent}
+use Rattle.step_bridge.specs.Passes.{fits-represent}
+use Rattle.step.specs.Public.{written, stepped}
+use Rattle.step.specs.declared.Stepped.{Stepped}
 use Rattle.contracts.specs.Calls.{StepMay}
 use Rattle.contracts.specs.Only.{only-step}
 

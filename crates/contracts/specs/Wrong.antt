@@ -11,18 +11,18 @@ use Rattle.rules.specs.State as S
 use Rattle.rules.specs.Range.{inRange}
 use Rattle.rules.specs.Step as Rules
 use Rattle.rules.specs.Open.{countOf, openReport}
-use Rattle.laws.specs.Steps.{fresh-fits}
-use Rattle.laws.specs.Computed.{computed}
-use Rattle.laws.specs.Tests.{is-yes}
-use Rattle.state.specs.Hold.{represent}
-use Rattle.state.specs.declared.State.{State}
-use Rattle.bridge.specs.Held.{hold-represent}
-use Rattle.bridge.specs.Passes.{fits-represent}
-use Rattle.stepper.specs.Public.{stepped, reported}
-use Rattle.stepper.specs.declared.Stepped.{Stepped}
-use Rattle.stepper.specs.declared.Report.{Report}
-use Rattle.lists.specs.EventList.{recordCount}
-use Rattle.runner.specs.Ran.{Ran, noWrites, wholeRun, runRefusal, ran}
+use Rattle.rules_laws.specs.Steps.{fresh-fits}
+use Rattle.rules_laws.specs.Computed.{computed}
+use Rattle.rules_laws.specs.Tests.{is-yes}
+use Rattle.step_state.specs.Hold.{represent}
+use Rattle.step_state.specs.declared.State.{State}
+use Rattle.step_bridge.specs.Held.{hold-represent}
+use Rattle.step_bridge.specs.Passes.{fits-represent}
+use Rattle.step.specs.Public.{stepped, reported}
+use Rattle.step.specs.declared.Stepped.{Stepped}
+use Rattle.step.specs.declared.Report.{Report}
+use Rattle.run_lists.specs.EventList.{recordCount}
+use Rattle.run.specs.Ran.{Ran, noWrites, wholeRun, runRefusal, ran}
 use Rattle.contracts.specs.Opened.{states, runs}
 use Rattle.contracts.specs.Calls.{StepMay, OpenStreamsMay, RunMay}
 use Rattle.contracts.specs.Only.{only-open-streams, only-run}

@@ -1,8 +1,8 @@
 // The calls for a C host: see include/hoefspanker.h.
 ghost use mathlib.Core.Path.{_≡_};
-ghost use Rattle.packed.specs.Bytes.{reported};
-ghost use Rattle.runner.specs.Ran.{ran};
-ghost use Rattle.merging.specs.Reply.{reply};
+ghost use Rattle.wire_bytes.specs.Bytes.{reported};
+ghost use Rattle.run.specs.Ran.{ran};
+ghost use Rattle.merge_call.specs.Reply.{reply};
 
 // Runs a list from a fresh state: an answer for each record, the history behind the answers, and the bytes after it stay.
 // Returns 256 plus the number of writes. A refused list returns why, and leaves every byte of the buffer.
@@ -11,7 +11,7 @@ pub extern "C" fn hoefspanker_run(list: &[u8], out: &mut [u8]) -> u32
     ensures { λ r. ⌜ (r ≡ ran (now (list .entry)) (now (out .entry)) .returned)
         × (now (out .exit) ≡ ran (now (list .entry)) (now (out .entry)) .out) ⌝ }
 {
-    runner::run(list, out)
+    run::run(list, out)
 }
 
 // Compares two lists as merges of the same logs. Returns the verdict, with the places at the front of the buffer and the bytes after them as they were;
@@ -21,7 +21,7 @@ pub extern "C" fn hoefspanker_same_merge(first: &[u8], second: &[u8], places: &m
     ensures { λ r. ⌜ (r ≡ reply (now (first .entry)) (now (second .entry)) (now (places .entry)) .returned)
         × (now (places .exit) ≡ reply (now (first .entry)) (now (second .entry)) (now (places .entry)) .places) ⌝ }
 {
-    merging::same_merge(first, second, places)
+    merge_call::same_merge(first, second, places)
 }
 
 // Reads a captured arbitration message: its fields as 40 bytes at the front of the buffer, and the bytes after them stay. Returns 0, or why the message
@@ -31,5 +31,5 @@ pub extern "C" fn hoefspanker_read_arbitration(message: &[u8], fields: &mut [u8]
     ensures { λ r. ⌜ (r ≡ reported (now (message .entry)) (now (fields .entry)) .returned)
         × (now (fields .exit) ≡ reported (now (message .entry)) (now (fields .entry)) .fields) ⌝ }
 {
-    packed::read_into(message, fields)
+    wire_bytes::read_into(message, fields)
 }

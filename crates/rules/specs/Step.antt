@@ -25,7 +25,7 @@ kinds = none ∷ some join ∷ some leave ∷ some learns ∷ some sendUpdate �
 abbrev pub kindOf : ℕ → Option Kind
 kindOf k = getD kinds k none
 
--- The number of a kind: the way back, by `of-number` in laws/specs/Kinds.
+-- The number of a kind: the way back, by `of-number` in rules_laws/specs/Kinds.
 abbrev pub numberOf : Kind → ℕ
 numberOf join = 1
 numberOf leave = 2
