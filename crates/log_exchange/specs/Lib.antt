@@ -1,5 +1,5 @@
 -- Believed: Exchange.
--- Laws: Bytes, Moves, Filling, Ran, Passing, Allowed.
+-- Laws: Moves, Filling, Ran, Passing, Allowed.
 pub mod Exchange
 pub mod Moves
 pub mod Filling

@@ -1,5 +1,5 @@
 -- Believed: Assured.
--- Laws: Times, Keeps, Meaning, Names, Lacks, Uncrossed, Sample.
+-- Laws: Times, Keeps, Meaning, Blocked, Sorts, Names, Uncrossed, Sample.
 pub mod Assured
 pub mod Times
 pub mod Keeps

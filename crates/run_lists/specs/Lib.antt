@@ -1,6 +1,6 @@
 -- Believed: EventList, Entries.
 -- Definitions: Reads.
--- Laws: Good, Trails, Stores, Written, Sample.
+-- Laws: Good, Trails, Stores, Written, Sample, Made.
 pub mod EventList
 pub mod Entries
 pub mod Reads
