@@ -104,9 +104,9 @@ module _ (C : Type 0) (other : List ℕ) (apart : Apart other) where
             numbers =
                 partingOf count rows up (p .x) (p .y) .at
                 ∷ partingOf count rows up (p .x) (p .y) .one .node
-                ∷ partingOf count rows up (p .x) (p .y) .one .term
+                ∷ partingOf count rows up (p .x) (p .y) .one .term .0
                 ∷ partingOf count rows up (p .x) (p .y) .other .node
-                ∷ partingOf count rows up (p .x) (p .y) .other .term
+                ∷ partingOf count rows up (p .x) (p .y) .other .term .0
                 ∷ []
 
             pick : (b : Bool) → eqb (partingOf count rows up (p .x) (p .y) .at) 0 ≡ b → Says other (cond b (line R.agrees []) (line R.differs numbers) ++ rest) → C
