@@ -11,6 +11,15 @@ build_compare_messages() {
         rust_program arbitration/compare compare-messages
 }
 
+build_compare_frames() {
+    rust_library library && rust_library arbitration/calls &&
+        rust_program arbitration/frames compare-frames
+}
+
+build_captures() {
+    rust_program arbitration/programs captured-frames
+}
+
 build_peer() {
     rust_library library && rust_library arbitration/calls &&
         rust_program arbitration/peer peer

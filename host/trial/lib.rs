@@ -1,13 +1,15 @@
 //! What every comparison with the library needs: its arguments, buffers to
-//! lend, a count of what it reached, and its exit status.
+//! lend, programs to run, a count of what it reached, and its exit status.
 
 mod arguments;
 mod lent;
+mod programs;
 mod reached;
 mod shrink;
 
 pub use arguments::{run_with_arguments, Arguments};
 pub use lent::Lent;
+pub use programs::{printed, ran};
 pub use reached::Counts;
 pub use shrink::shrunk;
 

@@ -11,7 +11,7 @@ mod protoc;
 
 use std::process::{Command, ExitCode};
 
-use calls::Call;
+use calls::{Call, Compared};
 use cases::Case;
 use messages::Written;
 use random::Random;
@@ -67,7 +67,7 @@ fn program_prints(program: &str, case: &Case) -> Result<(), String> {
 }
 
 fn prints(program: &str, input: &[u8], expected: &str) -> Result<(), String> {
-    let printed = protoc::printed(&mut Command::new(program), input)?;
+    let printed = trial::printed(&mut Command::new(program), input)?;
     if printed == expected.as_bytes() {
         return Ok(());
     }

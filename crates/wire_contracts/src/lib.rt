@@ -1,0 +1,1 @@
+// Theorems about the contracts of what reads captures: no second answer meets one.

@@ -1,0 +1,30 @@
+//! Compares the library's reading of captured frames with the reading here.
+//!
+//! Usage: compare-frames [SEED [NUMBER]], with the number of captures drawn.
+//! Exit status 0: no difference; 1: a difference; 2: wrong arguments, or
+//! something was not reached that a comparison must reach.
+
+mod cases;
+mod reached;
+
+use std::process::ExitCode;
+
+use calls::Comparison;
+use random::Random;
+use trial::Arguments;
+
+const USUAL_NUMBER: usize = 40_000;
+
+fn main() -> ExitCode {
+    trial::run_with_arguments("compare-frames", USUAL_NUMBER, compare)
+}
+
+fn compare(Arguments { seed, number }: Arguments) -> ExitCode {
+    let mut comparison = Comparison::new(reached::nothing(), reached::watch);
+    let mut random = Random::from_seed(seed);
+    cases::short(|call| comparison.compare(call));
+    for _ in 0..number {
+        cases::drawn(&mut random, |call| comparison.compare(call));
+    }
+    comparison.ended(seed, "frames")
+}
