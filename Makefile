@@ -1,3 +1,4 @@
+# make try               run the sample with nothing proved, in seconds
 # make run [LIST=file]   prove and build the program, then run an event list (hex text or bytes)
 # make programs          prove and build all programs: target/bin/replay, compare, merge_log, arbitration
 # make test              the gate: every proof, every must-fail edit, every test
@@ -8,31 +9,33 @@
 LIST ?= examples/sample.hex
 PREFIX ?= /usr/local
 DESTDIR ?=
-PROGRAM = target/bin/replay
 PROGRAMS = replay compare merge_log arbitration
 LIBRARY = target/staticlib/libhoefspanker.a
-VERSION = 1.0.0
+VERSION := $(shell sed -n 's/^.define HOEFSPANKER_VERSION "\(.*\)"$$/\1/p' include/hoefspanker.h)
 
-.PHONY: run program programs lib test bench install clean
+.PHONY: try run programs lib test bench install clean
+# Two rt at once would write the same files.
+.NOTPARALLEL:
 
-run: program
-	@scripts/bytes "$(LIST)" | $(PROGRAM)
+try:
+	@scripts/try
 
-program:
-	@mkdir -p build
-	@rt check replay >build/program.log 2>&1 || { cat build/program.log; exit 1; }
+run:
+	@scripts/prove replay
+	@scripts/bytes "$(LIST)" | target/bin/replay
 
 programs:
-	@mkdir -p build
-	@rt check $(PROGRAMS) >build/program.log 2>&1 || { cat build/program.log; exit 1; }
+	@scripts/prove $(PROGRAMS)
 
 lib:
+	@scripts/prove hoefspanker
 	rt staticlib hoefspanker
 
 test:
 	@scripts/test
 
-bench: program lib
+bench: lib
+	@scripts/prove merge_log
 	host/bench.sh
 
 install: programs lib

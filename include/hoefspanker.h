@@ -10,6 +10,8 @@
 #include <stddef.h>
 #include <stdint.h>
 
+#define HOEFSPANKER_VERSION "1.0.0"
+
 /* The event list is note bytes (any, possibly none), then records, then a
  * trailer. A record is two bytes, kind and node. The trailer is the offset of
  * the first record and the number of records, each 4 bytes with the least byte

@@ -1,47 +1,64 @@
--- `main` is safe: the text lies within its buffer. Assumes nothing.
+-- `main` is safe: what was read, and the text, lie within their buffers. Assumes nothing.
 use mathlib.Core.Path.{sym}
-use borrow.Author.Needs.{needs}
 use lib.Seq.{length-take-le}
+use Rattle.files.specs.Within.{counted}
+use borrow.Author.Needs.{needs}
 use Rattle.replay.proofs.main.Statement.{statement}
 use Rattle.replay.proofs.main.Tie as tie
 
-slice-aggregate-read-full : tie.Need-slice-aggregate-read-full
-slice-aggregate-read-full c = search needs
+slice-aggregate-read-input : tie.Need-slice-aggregate-read-input
+slice-aggregate-read-input c = search needs
 
-read-full-requires : tie.Need-read-full-requires
-read-full-requires c κs = search needs
+read-input-requires : tie.Need-read-input-requires
+read-input-requires c κs = search needs
+
+enum-known-n : tie.Need-enum-known-n
+enum-known-n c = search needs
+
+enum-told : tie.Need-enum-told
+enum-told c = search needs
+
+returns : tie.Need-returns
+returns c = search needs
 
 array-share-prefix-list : tie.Need-array-share-prefix-list
-array-share-prefix-list c = search needs
+array-share-prefix-list c =
+    let read = c .before in
+    counted _ _ _ (read .before .before .before .read-input .ensures) (read .n .given .1) .0
 
 slice-aggregate-transcript : tie.Need-slice-aggregate-transcript
-slice-aggregate-transcript c = search needs
+slice-aggregate-transcript c =
+    let read = c .before .before in
+    counted _ _ _ (read .before .before .before .read-input .ensures) (read .n .given .1) .1
 
 transcript-requires : tie.Need-transcript-requires
 transcript-requires c κs = search needs
 
 array-share-prefix-text : tie.Need-array-share-prefix-text
-array-share-prefix-text c = c .transcript .ensures .1
+array-share-prefix-text c = search needs
 
-slice-aggregate-write-all : tie.Need-slice-aggregate-write-all
-slice-aggregate-write-all c = sym (length-take-le _ _ (c .before .transcript .ensures .1))
+slice-aggregate-print : tie.Need-slice-aggregate-print
+slice-aggregate-print c = sym (length-take-le _ _ (c .before .transcript .ensures .1))
 
-write-all-requires : tie.Need-write-all-requires
-write-all-requires c κs = search needs
+print-requires : tie.Need-print-requires
+print-requires c κs = search needs
 
-returns : tie.Need-returns
-returns c = search needs
+returns-2 : tie.Need-returns-2
+returns-2 c = search needs
 
 pub main-spec : {M : Type 1} → statement M
 main-spec =
     tie.close
     (tie.spec
-    slice-aggregate-read-full
-    read-full-requires
+    slice-aggregate-read-input
+    read-input-requires
+    enum-known-n
+    enum-told
+    returns
     array-share-prefix-list
     slice-aggregate-transcript
     transcript-requires
     array-share-prefix-text
-    slice-aggregate-write-all
-    write-all-requires
-    returns)
+    slice-aggregate-print
+    print-requires
+    returns-2)

@@ -1,18 +1,18 @@
--- `play` meets its contract. It is safe and ends. Assumes nothing.
-use Prim.Native.Nat.{_+_, _-_, _≤_}
+-- `play` is safe and ends: each turn of its loop passes a byte of the script. Assumes nothing.
+use Prim.Native.Nat.{_-_, _≤_}
 use lib.ListN.{length}
 use borrow.Author.Needs.{needs}
 use Rattle.tour.proofs.play.Statement.{statement}
 use Rattle.tour.proofs.play.Tie as tie
 
 abbrev Inv-loop : tie.InvT-loop
-Inv-loop words steps state₀ i₀ t8 t9 state i = i ≤ length steps + 1
+Inv-loop script state₀ from₀ i₀ state from i = (from ≤ i) × (i ≤ length script)
 
 abbrev μ-loop : tie.MeasureT-loop
-μ-loop words steps state₀ i₀ t8 t9 state i = length steps + 1 - i
+μ-loop script state₀ from₀ i₀ state from i = length script - i
 
-write-all-requires : tie.Need-write-all-requires Inv-loop μ-loop
-write-all-requires c κs = search needs
+fresh-requires : tie.Need-fresh-requires Inv-loop μ-loop
+fresh-requires c κs = search needs
 
 loop-holds : tie.Need-loop-holds Inv-loop μ-loop
 loop-holds c = search needs
@@ -20,26 +20,38 @@ loop-holds c = search needs
 add-loop : tie.Need-add-loop Inv-loop μ-loop
 add-loop c = search needs
 
-shared-slice-read-step : tie.Need-shared-slice-read-step Inv-loop μ-loop
-shared-slice-read-step c = search needs
+shared-slice-read-if1 : tie.Need-shared-slice-read-if1 Inv-loop μ-loop
+shared-slice-read-if1 c = search needs
 
-add-step : tie.Need-add-step Inv-loop μ-loop
-add-step c = search needs
+add-answer : tie.Need-add-answer Inv-loop μ-loop
+add-answer c = search needs
 
-shared-slice-read-step-2 : tie.Need-shared-slice-read-step-2 Inv-loop μ-loop
-shared-slice-read-step-2 c = search needs
+shared-slice-read-answer : tie.Need-shared-slice-read-answer Inv-loop μ-loop
+shared-slice-read-answer c = search needs
 
-step-requires : tie.Need-step-requires Inv-loop μ-loop
-step-requires c κs = search needs
+add-answer-2 : tie.Need-add-answer-2 Inv-loop μ-loop
+add-answer-2 c = search needs
 
-slice-aggregate-print-number : tie.Need-slice-aggregate-print-number Inv-loop μ-loop
-slice-aggregate-print-number c = search needs
+shared-slice-read-answer-2 : tie.Need-shared-slice-read-answer-2 Inv-loop μ-loop
+shared-slice-read-answer-2 c = search needs
 
-cast-print-number : tie.Need-cast-print-number Inv-loop μ-loop
-cast-print-number c = search needs
+answer-requires : tie.Need-answer-requires Inv-loop μ-loop
+answer-requires c κs = search needs
 
-print-number-requires : tie.Need-print-number-requires Inv-loop μ-loop
-print-number-requires c κs = search needs
+sub-printed : tie.Need-sub-printed Inv-loop μ-loop
+sub-printed c = search needs
+
+part-printed-start : tie.Need-part-printed-start Inv-loop μ-loop
+part-printed-start c = search needs
+
+part-printed-end : tie.Need-part-printed-end Inv-loop μ-loop
+part-printed-end c = search needs
+
+printed-requires : tie.Need-printed-requires Inv-loop μ-loop
+printed-requires c κs = search needs
+
+returns : tie.Need-returns Inv-loop μ-loop
+returns c = search needs
 
 add-i : tie.Need-add-i Inv-loop μ-loop
 add-i c = search needs
@@ -50,14 +62,29 @@ loop-less c = search needs
 loop-again : tie.Need-loop-again Inv-loop μ-loop
 loop-again c = search needs
 
-slice-aggregate-write-all : tie.Need-slice-aggregate-write-all Inv-loop μ-loop
-slice-aggregate-write-all c = search needs
+add-i-2 : tie.Need-add-i-2 Inv-loop μ-loop
+add-i-2 c = search needs
 
-write-all-requires-2 : tie.Need-write-all-requires-2 Inv-loop μ-loop
-write-all-requires-2 c κs = search needs
+loop-less-2 : tie.Need-loop-less-2 Inv-loop μ-loop
+loop-less-2 c = search needs
 
-returns : tie.Need-returns Inv-loop μ-loop
-returns c = search needs
+loop-again-2 : tie.Need-loop-again-2 Inv-loop μ-loop
+loop-again-2 c = search needs
+
+sub-print : tie.Need-sub-print Inv-loop μ-loop
+sub-print c = search needs
+
+part-print-start : tie.Need-part-print-start Inv-loop μ-loop
+part-print-start c = search needs
+
+part-print-end : tie.Need-part-print-end Inv-loop μ-loop
+part-print-end c = search needs
+
+print-requires : tie.Need-print-requires Inv-loop μ-loop
+print-requires c κs = search needs
+
+returns-2 : tie.Need-returns-2 Inv-loop μ-loop
+returns-2 c = search needs
 
 pub play-spec : {M : Type 1} → statement M
 play-spec =
@@ -65,19 +92,28 @@ play-spec =
     (tie.spec
     Inv-loop
     μ-loop
-    write-all-requires
+    fresh-requires
     loop-holds
     add-loop
-    shared-slice-read-step
-    add-step
-    shared-slice-read-step-2
-    step-requires
-    slice-aggregate-print-number
-    cast-print-number
-    print-number-requires
+    shared-slice-read-if1
+    add-answer
+    shared-slice-read-answer
+    add-answer-2
+    shared-slice-read-answer-2
+    answer-requires
+    sub-printed
+    part-printed-start
+    part-printed-end
+    printed-requires
+    returns
     add-i
     loop-less
     loop-again
-    slice-aggregate-write-all
-    write-all-requires-2
-    returns)
+    add-i-2
+    loop-less-2
+    loop-again-2
+    sub-print
+    part-print-start
+    part-print-end
+    print-requires
+    returns-2)
