@@ -80,7 +80,8 @@ build_library() {
     if [ "$library" = stand-in ]; then
         programs=$out/stand-in
         stand_in host "$programs" && stand_in_program arbitration "$programs" &&
-            stand_in_program compare "$programs" && stand_in_program merge_log "$programs" &&
+            stand_in_program captured "$programs" && stand_in_program compare "$programs" &&
+            stand_in_program merge_log "$programs" &&
             use_library "$programs/libhoefspanker.a"
     else
         use_library "$library"
@@ -98,6 +99,17 @@ test_example() {
     test_that "list too long, $by" refuses_long "$@"
 }
 
+# A capture of real peers. The name of the test says which.
+read_captures() {
+    host/captures/test.sh "$programs/captured" "$out/captures" >"$out/captures.log" 2>&1
+    captures_status=$?
+}
+
+captures_read() {
+    cat "$out/captures.log"
+    return "$captures_status"
+}
+
 rm -rf "$out"
 mkdir -p "$out"
 need rustc rustc
@@ -106,6 +118,8 @@ need g++ g++
 need valgrind valgrind
 need xxd xxd
 need protoc protobuf-compiler
+need tshark tshark
+need_grpc
 test_that "library: $library" build_library
 [ "$failed" -eq 0 ] || finish
 test_that "reference built" build_reference
@@ -118,6 +132,13 @@ test_that "comparison of messages built" build_compare_messages
 test_that "comparison with the reading" "$out/compare-messages"
 test_that "protobuf's own messages built" build_peer
 test_that "protobuf's own messages" "$out/peer" "$programs/arbitration"
+test_that "comparison of frames built" build_compare_frames
+test_that "comparison with the reading of frames" "$out/compare-frames"
+test_that "programs for captures built" build_captures
+test_that "programs for captures" "$out/captured-frames" "$programs/captured" \
+    "$programs/arbitration"
+read_captures
+test_that "captured, $(head -n 1 "$out/captures.log")" captures_read
 test_that "judge of merges built" build_judge
 test_that "unit tests of the judge" "$out/judge-test"
 test_that "comparison of verdicts built" build_compare_verdicts
