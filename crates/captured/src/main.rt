@@ -41,19 +41,27 @@ fn read_next(space: &mut [u8]) -> Next
     Next::Read(wire_frames::read_frame(&space[..all]))
 }
 
-// Writes a text to standard output. Where that fails, says why on standard error and answers false: what follows would fail too.
-fn printed(text: &[u8]) -> bool {
-    if io::write_all(STDOUT_FILENO, text) {
-        return true;
+// Prints the text of a frame, and answers whether to go on: not behind a refusal, and not where the text could not be written, of which it says why on
+// standard error.
+fn printed(number: u64, offset: u64, frame: Frame) -> bool {
+    let mut text = [0u8; wire_shown::LONGEST_TEXT];
+    let length = wire_shown::shown(number, offset, frame, &mut text);
+    if io::write_all(STDOUT_FILENO, &text[..length]) {
+        return frame.code == wire::READ;
     }
     os::fail(b"standard output");
     false
 }
 
+fn print_end(number: u64) {
+    let mut text = [0u8; wire_shown::LONGEST_TEXT];
+    let length = wire_shown::ended(number, &mut text);
+    files::print(&text[..length]);
+}
+
 fn main() {
     let mut room = [0u8; ROOM];
     let space: &mut [u8] = &mut room;
-    let mut text = [0u8; wire_shown::LONGEST_TEXT];
     let mut number: u64 = 0;
     let mut offset: u64 = 0;
     while number < 0xFFFF_FFFF_FFFF_FFFF {
@@ -63,17 +71,12 @@ fn main() {
                 return;
             }
             Next::End => {
-                let length = wire_shown::ended(number, &mut text);
-                printed(&text[..length]);
+                print_end(number);
                 return;
             }
             Next::Read(frame) => {
                 number += 1;
-                let length = wire_shown::shown(number, offset, frame, &mut text);
-                if !printed(&text[..length]) {
-                    return;
-                }
-                if frame.code != wire::READ {
+                if !printed(number, offset, frame) {
                     return;
                 }
                 offset = std::num::wrapping_add_u64(offset, frame.size as u64);

@@ -31,6 +31,7 @@ pub data Framed : Type 0 where
   -- The flag is not 0.
   compressed : Framed
 
+-- The flag is judged first; of no bytes it is 0, and they are cut short.
 unfoldable pub framed : List ℕ → Framed
 framed l =
     cond (eqb (getD l 0 0) 0)
