@@ -21,7 +21,7 @@ long=$(head -c 20000 /dev/zero | tr '\0' x)
 # encoded KIND: each line of text as a message, in hex.
 encoded() {
     sed "s/LONG/$long/" | while IFS= read -r text; do
-        echo "$text" | protoc --proto_path="$here" --proto_path=host/arbitration/peer \
+        echo "$text" | protoc --proto_path=host/arbitration/peer \
             --encode="hoefspanker.$1" stream.proto | xxd -p | tr -d '\n'
         echo
     done

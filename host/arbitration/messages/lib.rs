@@ -9,5 +9,5 @@ pub use damage::damaged;
 pub use drawn::{
     all_fields, any_bytes, any_number, faulty, long, portable, update, whole, TELLING,
 };
-pub use stream::{capture, framed, stream_message};
+pub use stream::{capture, framed, portable_stream, stream_message};
 pub use write::{number, padded, Written};

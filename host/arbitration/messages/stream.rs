@@ -3,7 +3,7 @@
 use random::Random;
 
 use crate::damage::{damaged, fault};
-use crate::drawn::{all_fields, any_number, faulty, whole};
+use crate::drawn::{all_fields, any_number, faulty, portable, whole};
 use crate::write::Written;
 
 /// A gRPC frame around some bytes, not compressed.
@@ -24,6 +24,22 @@ pub fn stream_message(random: &mut Random) -> Vec<u8> {
             }
             8 => message.number(random.between(1, 7) as u64, any_number(random)),
             _ => other(random, message),
+        };
+    }
+    message.bytes
+}
+
+/// A good stream message of alternatives alone, all of which protobuf's own readers
+/// take: several, so that they are merged and set aside.
+pub fn portable_stream(random: &mut Random) -> Vec<u8> {
+    let mut message = Written::new();
+    for _ in 0..random.between(0, 4) {
+        message = match random.below(3) {
+            0 => {
+                let field = random.between(2, 5) as u64;
+                message.bytes(field, &Written::new().bytes(9, &random.bytes(3)).bytes)
+            }
+            _ => message.bytes(1, &portable(random)),
         };
     }
     message.bytes

@@ -1,7 +1,8 @@
 //! Reads a MasterArbitrationUpdate of p4runtime.proto 1.0.0 as it goes over the
 //! wire. Written from protobuf's published encoding and the request alone,
 //! without a look at the verified library, which is compared with it and
-//! measured against it.
+//! measured against it. The frames that carry such messages came later, and are
+//! written from gRPC's framing and p4runtime.proto.
 
 mod frames;
 mod merge;
