@@ -1,6 +1,6 @@
 # make try               run the sample with nothing proved, in seconds
 # make run [LIST=file]   prove and build the program, then run an event list (hex text or bytes)
-# make programs          prove and build all programs: target/bin/replay, compare, merge_log, arbitration, captured
+# make programs          prove and build all programs: target/bin/replay, compare, merges, arbitration, captured
 # make test              the gate: every proof, every must-fail edit, every test
 # make lib               target/staticlib/libhoefspanker.a for a C host
 # make install PREFIX=   the library, its header, its pkg-config file and the programs
@@ -9,7 +9,7 @@
 LIST ?= examples/sample.hex
 PREFIX ?= /usr/local
 DESTDIR ?=
-PROGRAMS = replay compare merge_log arbitration captured
+PROGRAMS = replay compare merges arbitration captured
 LIBRARY = target/staticlib/libhoefspanker.a
 VERSION := $(shell sed -n 's/^.define HOEFSPANKER_VERSION "\(.*\)"$$/\1/p' include/hoefspanker.h)
 
@@ -27,7 +27,10 @@ run:
 programs:
 	@scripts/prove $(PROGRAMS)
 
-lib:
+lib: $(LIBRARY)
+
+# Made again only if a crate has changed.
+$(LIBRARY): crates.txt $(shell find crates -name '*.rt' -o -name '*.antt')
 	@scripts/prove hoefspanker
 	rt staticlib hoefspanker
 
@@ -35,13 +38,13 @@ test:
 	@scripts/test
 
 bench: lib
-	@scripts/prove merge_log
+	@scripts/prove merges
 	host/bench.sh
 
-install: programs lib
+install: programs $(LIBRARY)
 	install -d "$(DESTDIR)$(PREFIX)/bin" "$(DESTDIR)$(PREFIX)/include" "$(DESTDIR)$(PREFIX)/lib/pkgconfig"
 	install -m 755 target/bin/replay target/bin/compare target/bin/arbitration target/bin/captured "$(DESTDIR)$(PREFIX)/bin"
-	install -m 755 target/bin/merge_log "$(DESTDIR)$(PREFIX)/bin/merges"
+	install -m 755 target/bin/merges "$(DESTDIR)$(PREFIX)/bin/merges"
 	install -m 644 include/hoefspanker.h "$(DESTDIR)$(PREFIX)/include"
 	install -m 644 $(LIBRARY) "$(DESTDIR)$(PREFIX)/lib"
 	sed -e 's|@PREFIX@|$(PREFIX)|' -e 's|@VERSION@|$(VERSION)|' include/hoefspanker.pc.in >"$(DESTDIR)$(PREFIX)/lib/pkgconfig/hoefspanker.pc"

@@ -9,6 +9,6 @@ mkdir -p "$out"
 need rustc rustc
 need gcc gcc
 use_library target/staticlib/libhoefspanker.a || exit 1
-build_reference && build_reading && build_judge && build_bench &&
-    stand_in host "$out/plain" && stand_in_program merge_log "$out/plain" || exit 1
-exec "$out/bench" "${1:-60}" target/bin/merge_log "$out/plain/merge_log"
+build_reference && build_reading && build_judge && build_calls && build_bench &&
+    stand_in host "$out/plain" && stand_in_program merges "$out/plain" || exit 1
+exec "$out/bench" "${1:-60}" target/bin/merges "$out/plain/merges"

@@ -82,13 +82,17 @@ build_reference() {
             host/reference/lib.rs
 }
 
+# The C calls as a Rust host makes them; every program that makes one needs them first.
+build_calls() {
+    rust_library library && rust_library arbitration/calls
+}
+
 build_compare() {
-    rust_library library && rust_program compare compare
+    rust_program compare compare
 }
 
 build_bench() {
-    rust_library library &&
-        c_object -O2 -c host/bench/stack.c -o "$out/stack.o" &&
+    c_object -O2 -c host/bench/stack.c -o "$out/stack.o" &&
         rust_program bench bench -C "link-arg=$out/stack.o"
 }
 

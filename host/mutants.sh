@@ -22,7 +22,7 @@ build_mutant() {
         echo "the edit changes nothing: $2"
         return 1
     fi
-    stand_in "$mutant/host" "$mutant" && use_library "$mutant/libhoefspanker.a" && "$3"
+    stand_in "$mutant/host" "$mutant" && use_library "$mutant/libhoefspanker.a" && build_calls && "$3"
 }
 
 # try_mistakes TABLE FOLDER BUILD COMPARISON ..: the mistakes of a table in the files
@@ -51,12 +51,12 @@ try_mistakes() {
 
 # The programs for merges with the mistake in them.
 build_mutant_programs() {
-    stand_in_program compare "$mutant" && stand_in_program merge_log "$mutant" && build_programs
+    stand_in_program compare "$mutant" && stand_in_program merges "$mutant" && build_programs
 }
 
 run_mutant_programs() {
     "$out/programs" compare "$mutant/compare" "$out/scratch" &&
-        "$out/programs" merges "$mutant/merge_log" "$out/scratch"
+        "$out/programs" merges "$mutant/merges" "$out/scratch"
 }
 
 try_part() {

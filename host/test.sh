@@ -3,56 +3,41 @@
 # that are fed by a test.
 # Usage: host/test.sh [LIBRARY], with the path of libhoefspanker.a, by default the
 # one that `rt staticlib hoefspanker` writes; or host/test.sh stand-in, which takes
-# the references in its place. The programs are taken from $PROGRAMS, by default
-# where `rt check` writes them. Missing Debian packages are installed.
+# the references in its place; or host/test.sh prepare, which only installs what is
+# missing and builds what needs no library, for a later host/test.sh to take. The
+# programs are taken from $PROGRAMS, by default where `rt check` writes them.
 set -u
 cd "$(dirname "$0")/.." || exit 1
 . host/build.sh
 library=${1:-target/staticlib/libhoefspanker.a}
 programs=${PROGRAMS:-target/bin}
-passed=0
-failed=0
-begun=
 
 # test_that NAME COMMAND ..: one line, and the command's output if it fails.
 test_that() {
     name=$1
     shift
-    if "$@" >"$out/log" 2>&1; then
-        passed=$((passed + 1))
+    if "$@" >"$out/$lane.log" 2>&1; then
         echo "ok      $name"
     else
-        failed=$((failed + 1))
         echo "FAILED  $name"
-        cat "$out/log"
+        cat "$out/$lane.log"
+        echo "$name" >>"$out/failed"
     fi
 }
 
-# begin NAME COMMAND ..: a long test that runs beside those that follow, one such at a time.
-begin() {
-    collect
-    begun=$1
-    shift
-    "$@" >"$out/begun.log" 2>&1 &
-    running=$!
+# in_lane NAME TESTS: tests that run beside those of other lanes; what they print is
+# kept until all lanes have ended.
+in_lane() {
+    lane=$1
+    "$2" >"$out/$lane.lane" 2>&1 &
 }
 
-# Waits for the test that was begun, if there is one, and counts it.
-ended() {
-    wait "$running" && return
-    cat "$out/begun.log"
-    return 1
-}
-
-collect() {
-    [ -z "$begun" ] || test_that "$begun" ended
-    begun=
-}
-
-# The counts as the last line, and the exit status.
+# What the lanes printed, the counts as the last line, and the exit status.
 finish() {
-    collect
-    echo "$passed passed, $failed failed"
+    wait
+    cat "$out"/*.lane
+    failed=$(wc -l <"$out/failed")
+    echo "$(cat "$out"/*.lane | grep -c '^ok ') passed, $failed failed"
     [ "$failed" -eq 0 ]
     exit
 }
@@ -81,7 +66,7 @@ build_library() {
         programs=$out/stand-in
         stand_in host "$programs" && stand_in_program arbitration "$programs" &&
             stand_in_program captured "$programs" && stand_in_program compare "$programs" &&
-            stand_in_program merge_log "$programs" &&
+            stand_in_program merges "$programs" &&
             use_library "$programs/libhoefspanker.a"
     else
         use_library "$library"
@@ -110,48 +95,75 @@ captures_read() {
     return "$captures_status"
 }
 
-rm -rf "$out"
-mkdir -p "$out"
-need rustc rustc
-need gcc gcc
-need g++ g++
-need valgrind valgrind
-need xxd xxd
-need protoc protobuf-compiler
-need tshark tshark
-need_grpc
-test_that "library: $library" build_library
-[ "$failed" -eq 0 ] || finish
-test_that "reference built" build_reference
-test_that "unit tests of the reference" "$out/reference-test"
-test_that "comparison built" build_compare
-begin "comparison with the reference" "$out/compare"
-test_that "reading of messages built" build_reading
-test_that "unit tests of the reading" "$out/reading-test"
-test_that "comparison of messages built" build_compare_messages
-test_that "comparison with the reading" "$out/compare-messages"
-test_that "protobuf's own messages built" build_peer
-test_that "protobuf's own messages" "$out/peer" "$programs/arbitration"
-test_that "comparison of frames built" build_compare_frames
-test_that "comparison with the reading of frames" "$out/compare-frames"
-test_that "programs for captures built" build_captures
-test_that "programs for captures" "$out/captured-frames" "$programs/captured" \
-    "$programs/arbitration"
-read_captures
-test_that "captured, $(head -n 1 "$out/captures.log")" captures_read
-test_that "judge of merges built" build_judge
-test_that "unit tests of the judge" "$out/judge-test"
-test_that "comparison of verdicts built" build_compare_verdicts
-begin "comparison with the judge" "$out/compare-verdicts"
-test_that "programs for merges built" build_programs
-test_that "program for two lists" "$out/programs" compare "$programs/compare" "$out/scratch"
-begin "program for merged logs" "$out/programs" merges "$programs/merge_log" "$out/scratch"
-test_that "C example built" build_example
-test_example valgrind valgrind -q --error-exitcode=9 --leak-check=full "$out/host"
-test_example sanitizers "$out/host-sanitized"
-test_that "C++ header built" build_header
-test_that "C++ header run" "$out/header"
-test_that "measurement built" build_bench
-collect
-test_that "measurement run" "$out/bench" 1
+# What needs no library.
+prepare() {
+    rm -rf "$out" && mkdir -p "$out"
+    need rustc rustc
+    need gcc gcc
+    need g++ g++
+    need valgrind valgrind
+    need xxd xxd
+    need protoc protobuf-compiler
+    need tshark tshark
+    need_grpc
+    build_reference && build_reading && build_judge && build_programs && build_captures &&
+        touch "$out/prepared"
+}
+
+the_references() {
+    test_that "unit tests of the reference" "$out/reference-test"
+    test_that "unit tests of the reading" "$out/reading-test"
+    test_that "unit tests of the judge" "$out/judge-test"
+}
+
+comparisons() {
+    test_that "comparison built" build_compare
+    test_that "comparison with the reference" "$out/compare"
+    test_that "comparison of messages built" build_compare_messages
+    test_that "comparison with the reading" "$out/compare-messages"
+    test_that "protobuf's own messages built" build_peer
+    test_that "protobuf's own messages" "$out/peer" "$programs/arbitration"
+    test_that "comparison of frames built" build_compare_frames
+    test_that "comparison with the reading of frames" "$out/compare-frames"
+    test_that "programs for captures" "$out/captured-frames" "$programs/captured" \
+        "$programs/arbitration"
+    read_captures
+    test_that "captured, $(head -n 1 "$out/captures.log")" captures_read
+    test_that "comparison of verdicts built" build_compare_verdicts
+    test_that "comparison with the judge" "$out/compare-verdicts"
+    test_that "program for merged logs" "$out/programs" merges "$programs/merges" "$out/logs"
+}
+
+the_example() {
+    test_that "program for two lists" "$out/programs" compare "$programs/compare" "$out/pairs"
+    test_that "C example built" build_example
+    test_example valgrind valgrind -q --error-exitcode=9 --leak-check=full "$out/host"
+    test_example sanitizers "$out/host-sanitized"
+    test_that "C++ header built" build_header
+    test_that "C++ header run" "$out/header"
+}
+
+the_measurement() {
+    test_that "measurement built" build_bench
+    test_that "measurement run" "$out/bench" 1
+}
+
+if [ "$library" = prepare ]; then
+    prepare
+    exit
+fi
+[ -e "$out/prepared" ] || prepare || exit 1
+rm -f "$out/prepared" "$out"/*.lane
+: >"$out/failed"
+lane=library
+test_that "library: $library" build_library >"$out/$lane.lane"
+[ ! -s "$out/failed" ] || finish
+build_calls || exit 1
+in_lane comparisons comparisons
+in_lane example the_example
+lane=references
+the_references >"$out/$lane.lane"
+wait
+lane=measurement
+the_measurement >"$out/$lane.lane"
 finish

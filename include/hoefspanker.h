@@ -63,8 +63,8 @@
 #define HOEFSPANKER_BAD_LENGTH 8       /* shorter than 12 bytes or longer than 65,536 */
 #define HOEFSPANKER_BAD_MARK 9         /* last two bytes not 4D 41, or the zero byte not 0 */
 #define HOEFSPANKER_BAD_NODE_COUNT 10  /* node count not 1 to 8 */
-#define HOEFSPANKER_BAD_EXTENT 11      /* first + 2 * count + 12 is not the length */
-#define HOEFSPANKER_OUT_TOO_SHORT 12   /* output shorter than count + 4,096 bytes; of places, than 8 */
+#define HOEFSPANKER_BAD_EXTENT 11      /* first + 2 * records + 12 is not the length */
+#define HOEFSPANKER_OUT_TOO_SHORT 12   /* output shorter than records + 4,096 bytes; of places, than 8 */
 
 /* Verdicts on two lists as merges of the same logs. */
 #define HOEFSPANKER_SAME 256        /* the same writes are accepted, each record keeps its answer */

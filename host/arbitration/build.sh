@@ -7,13 +7,11 @@ build_reading() {
 }
 
 build_compare_messages() {
-    rust_library library && rust_library arbitration/calls &&
-        rust_program arbitration/compare compare-messages
+    rust_program arbitration/compare compare-messages
 }
 
 build_compare_frames() {
-    rust_library library && rust_library arbitration/calls &&
-        rust_program arbitration/frames compare-frames
+    rust_program arbitration/frames compare-frames
 }
 
 build_captures() {
@@ -21,6 +19,5 @@ build_captures() {
 }
 
 build_peer() {
-    rust_library library && rust_library arbitration/calls &&
-        rust_program arbitration/peer peer
+    rust_program arbitration/peer peer
 }

@@ -87,7 +87,7 @@ impl Reached {
         self.marks.mark(mark, holds);
     }
 
-    pub fn records(&self) -> u64 {
+    fn records(&self) -> u64 {
         self.answers.iter().flatten().sum()
     }
 
@@ -99,6 +99,7 @@ impl Reached {
             println!("{name:16}{}", counts.map(|count| format!("{count:11}")).concat());
         }
         self.marks.print();
+        println!("{:11} records", self.records());
         self.marks.print_missing(&self.missing_answers())
     }
 

@@ -1,29 +1,21 @@
 //! What every comparison with the library needs: its arguments, buffers to
-//! lend, programs to run, a count of what it reached, and its exit status.
+//! lend, programs to run, a count of what it reached, and its end.
 
 mod arguments;
+mod comparison;
 mod lent;
 mod programs;
 mod reached;
 mod shrink;
 
 pub use arguments::{run_with_arguments, Arguments};
+pub use comparison::Comparison;
 pub use lent::Lent;
 pub use programs::{printed, ran};
 pub use reached::Counts;
 pub use shrink::shrunk;
 
 use std::process::ExitCode;
-
-/// The exit status of a comparison: 1 for a difference, 2 if something was not
-/// reached that must be.
-pub fn status(differences: usize, missing: usize) -> ExitCode {
-    match (differences, missing) {
-        (0, 0) => ExitCode::SUCCESS,
-        (0, _) => ExitCode::from(2),
-        _ => ExitCode::from(1),
-    }
-}
 
 /// The exit status of a test that ends at the first difference, which is printed.
 pub fn ended(result: Result<(), String>) -> ExitCode {

@@ -6,7 +6,7 @@ build_judge() {
 }
 
 build_compare_verdicts() {
-    rust_library library && rust_program verdict/compare compare-verdicts
+    rust_program verdict/compare compare-verdicts
 }
 
 build_programs() {

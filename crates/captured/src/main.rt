@@ -6,7 +6,7 @@ use libc::STDOUT_FILENO;
 use wire_frames::Frame;
 
 // A head, and the longest message that a frame may hold.
-const ROOM: usize = wire_frames::HEAD + printout::LONGEST;
+const ROOM: usize = wire_frames::HEAD + wire_text::LONGEST;
 
 // A frame that holds more.
 const TOO_LONG: u8 = 8;
@@ -47,7 +47,7 @@ fn printed(number: u64, offset: u64, frame: Frame) -> bool {
     let mut text = [0u8; wire_shown::LONGEST_TEXT];
     let length = wire_shown::shown(number, offset, frame, &mut text);
     if io::write_all(STDOUT_FILENO, &text[..length]) {
-        return frame.code == wire::READ;
+        return frame.code == wire_fields::READ;
     }
     os::fail(b"standard output");
     false

@@ -1,1 +1,2 @@
+-- Laws: Within.
 pub mod Within

@@ -1,8 +1,8 @@
 // The calls for a C host: see include/hoefspanker.h.
 ghost use mathlib.Core.Path.{_≡_};
-ghost use Rattle.packed.specs.Bytes.{reported};
-ghost use Rattle.runner.specs.Ran.{ran};
-ghost use Rattle.merging.specs.Told.{told};
+ghost use Rattle.wire_bytes.specs.Bytes.{reported};
+ghost use Rattle.run.specs.Ran.{ran};
+ghost use Rattle.merge_call.specs.Reply.{reply};
 ghost use Rattle.wire_told.specs.Told.{told as toldFrame};
 
 // Runs a list from a fresh state: an answer for each record, the history behind the answers, and the bytes after it stay.
@@ -12,17 +12,17 @@ pub extern "C" fn hoefspanker_run(list: &[u8], out: &mut [u8]) -> u32
     ensures { λ r. ⌜ (r ≡ ran (now (list .entry)) (now (out .entry)) .returned)
         × (now (out .exit) ≡ ran (now (list .entry)) (now (out .entry)) .out) ⌝ }
 {
-    runner::run(list, out)
+    run::run(list, out)
 }
 
 // Compares two lists as merges of the same logs. Returns the verdict, with the places at the front of the buffer and the bytes after them as they were;
 // or the refusal, with every byte of the buffer as it was.
 #[no_mangle]
 pub extern "C" fn hoefspanker_same_merge(first: &[u8], second: &[u8], places: &mut [u8]) -> u32
-    ensures { λ r. ⌜ (r ≡ told (now (first .entry)) (now (second .entry)) (now (places .entry)) .returned)
-        × (now (places .exit) ≡ told (now (first .entry)) (now (second .entry)) (now (places .entry)) .places) ⌝ }
+    ensures { λ r. ⌜ (r ≡ reply (now (first .entry)) (now (second .entry)) (now (places .entry)) .returned)
+        × (now (places .exit) ≡ reply (now (first .entry)) (now (second .entry)) (now (places .entry)) .places) ⌝ }
 {
-    merging::same_merge(first, second, places)
+    merge_call::same_merge(first, second, places)
 }
 
 // Reads a captured arbitration message: its fields as 40 bytes at the front of the buffer, and the bytes after them stay. Returns 0, or why the message
@@ -32,7 +32,7 @@ pub extern "C" fn hoefspanker_read_arbitration(message: &[u8], fields: &mut [u8]
     ensures { λ r. ⌜ (r ≡ reported (now (message .entry)) (now (fields .entry)) .returned)
         × (now (fields .exit) ≡ reported (now (message .entry)) (now (fields .entry)) .fields) ⌝ }
 {
-    packed::read_into(message, fields)
+    wire_bytes::read_into(message, fields)
 }
 
 // Reads the frame at an offset of a captured stream: the fields of its arbitration message and the next offset as 48 bytes at the front of the buffer, and the

@@ -10,14 +10,14 @@ outOfRange = 1
 abbrev pub unknownKind : ℕ
 unknownKind = 2
 
-abbrev pub unknownNode : ℕ
-unknownNode = 3
+abbrev pub wrongNode : ℕ
+wrongNode = 3
 
 abbrev pub notAllowed : ℕ
 notAllowed = 4
 
-abbrev pub termsSpent : ℕ
-termsSpent = 5
+abbrev pub termLimit : ℕ
+termLimit = 5
 
 abbrev pub historyFull : ℕ
 historyFull = 6
@@ -30,15 +30,15 @@ queueFull = 7
 abbrev pub badLength : ℕ
 badLength = 8
 
-abbrev pub badTrailer : ℕ
-badTrailer = 9
+abbrev pub badMark : ℕ
+badMark = 9
 
 -- Also where a fresh state is asked for.
 abbrev pub badNodeCount : ℕ
 badNodeCount = 10
 
-abbrev pub badSum : ℕ
-badSum = 11
+abbrev pub badExtent : ℕ
+badExtent = 11
 
-abbrev pub bufferShort : ℕ
-bufferShort = 12
+abbrev pub outTooShort : ℕ
+outTooShort = 12

@@ -1,3 +1,4 @@
+-- Believed: Limits, Codes, State, Queues, Ids, Range, Part, Parts, Election, Rules, Step, Run, Open.
 pub mod Limits
 pub mod Codes
 pub mod State

@@ -4,6 +4,10 @@ use Prim.Native.Nat.{ℕ}
 abbrev pub mostNodes : ℕ
 mostNodes = 8
 
+-- The most backups that a mastership has: every node but its master.
+abbrev pub mostBackups : ℕ
+mostBackups = 7
+
 abbrev pub topTerm : ℕ
 topTerm = 10000
 

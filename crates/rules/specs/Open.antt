@@ -11,18 +11,19 @@ unfoldable pub wordOf : List Bool → ℕ
 wordOf [] = 0
 wordOf (o ∷ os) = cond o 1 0 + 2 * wordOf os
 
-unfoldable pub countOf : List Bool → ℕ
-countOf [] = 0
-countOf (o ∷ os) = cond o 1 0 + countOf os
+-- How many of them are open.
+unfoldable pub openNumber : List Bool → ℕ
+openNumber [] = 0
+openNumber (o ∷ os) = cond o 1 0 + openNumber os
 
 pub record Report : Type 0 where
   pub code : ℕ
   pub word : ℕ
-  pub count : ℕ
+  pub number : ℕ
 
 -- A state that is not in range has no report.
 unfoldable pub openReport : State → Report
 openReport s =
     cond (inRange s)
-    (record { code = stepDone; word = wordOf (s .core .wire .opens); count = countOf (s .core .wire .opens) })
-    (record { code = outOfRange; word = 0; count = 0 })
+    (record { code = stepDone; word = wordOf (s .core .board .opens); number = openNumber (s .core .board .opens) })
+    (record { code = outOfRange; word = 0; number = 0 })

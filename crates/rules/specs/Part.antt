@@ -1,7 +1,7 @@
 -- How a rule acts on a state. A rule sees nothing but what its part reads, and changes nothing but what its part writes.
 use mathlib.Core.Bool.{Bool, true, false}
 use Prim.Native.Nat.{ℕ}
-use Rattle.rules.specs.Codes.{stepDone, notAllowed, termsSpent, historyFull, queueFull}
+use Rattle.rules.specs.Codes.{stepDone, notAllowed, termLimit, historyFull, queueFull}
 
 -- An answer, and the state that the step leaves.
 pub record Result (A S : Type 0) : Type 0 where
@@ -46,7 +46,7 @@ module _ {R W : Type 0} where
   unfoldable pub decide : Rule R W → R → Out ℕ W
   decide r v =
       need (r .allowed v) notAllowed
-      (need (r .termLeft v) termsSpent
+      (need (r .termLeft v) termLimit
       (need (r .historyLeft v) historyFull
       (need (r .queuesLeft v) queueFull
       (done stepDone (r .effect v)))))

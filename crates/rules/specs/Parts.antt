@@ -4,19 +4,19 @@ use mathlib.Core.List.{List, [], _++_}
 use Prim.Native.Nat.{ℕ, _-_}
 use lib.ListN.{length, getD, set}
 use Rattle.rules.specs.Part.{Part}
-use Rattle.rules.specs.State.{Mastership, Request, Response, Write, Desk, Wire, Core, State, blank}
+use Rattle.rules.specs.State.{Mastership, Request, Response, Write, Desk, Board, Core, State, blank}
 
 abbrev pub withCore : Core → State → State
 withCore c s = record { count = s .count; running = s .running; history = s .history; core = c }
 
-abbrev pub withWire : Wire → Core → Core
-withWire w c = record { desk = c .desk; learned = c .learned; says = c .says; wire = w }
+abbrev pub withBoard : Board → Core → Core
+withBoard b c = record { desk = c .desk; learned = c .learned; says = c .says; board = b }
 
 -- 1, 2: the service and all event queues.
 abbrev pub servicePart : Part State Desk Desk
 servicePart = record {
   get = λ s. s .core .desk;
-  put = λ d s. withCore (record { desk = d; learned = s .core .learned; says = s .core .says; wire = s .core .wire }) s;
+  put = λ d s. withCore (record { desk = d; learned = s .core .learned; says = s .core .says; board = s .core .board }) s;
 }
 
 -- 3: node n's event queue and learned mastership.
@@ -31,7 +31,7 @@ learnPart n = record {
     desk = record { service = s .core .desk .service; events = set (s .core .desk .events) (n - 1) (v .events) };
     learned = set (s .core .learned) (n - 1) (v .learned);
     says = s .core .says;
-    wire = s .core .wire;
+    board = s .core .board;
   }) s;
 }
 
@@ -50,22 +50,22 @@ pub record Sent : Type 0 where
 
 abbrev pub sendPart : ℕ → Part State Sender Sent
 sendPart n = record {
-  get = λ s. let w = s .core .wire in record {
+  get = λ s. let b = s .core .board in record {
     count = s .count;
     learned = getD (s .core .learned) (n - 1) blank;
     says = getD (s .core .says) (n - 1) false;
-    isOpen = getD (w .opens) (n - 1) false;
-    sent = getD (w .sent) (n - 1) 0;
-    requests = getD (w .requests) (n - 1) [];
+    isOpen = getD (b .opens) (n - 1) false;
+    sent = getD (b .sent) (n - 1) 0;
+    requests = getD (b .requests) (n - 1) [];
   };
-  put = λ v s. let w = s .core .wire in withCore (withWire (record {
-    opens = w .opens;
-    sent = set (w .sent) (n - 1) (v .sent);
-    requests = set (w .requests) (n - 1) (v .requests);
-    responses = w .responses;
-    ids = w .ids;
-    terms = w .terms;
-    last = w .last;
+  put = λ v s. let b = s .core .board in withCore (withBoard (record {
+    opens = b .opens;
+    sent = set (b .sent) (n - 1) (v .sent);
+    requests = set (b .requests) (n - 1) (v .requests);
+    responses = b .responses;
+    ids = b .ids;
+    terms = b .terms;
+    last = b .last;
   }) (s .core)) s;
 }
 
@@ -84,46 +84,46 @@ pub record Received : Type 0 where
 
 abbrev pub receivePart : ℕ → Part State Receiver Received
 receivePart n = record {
-  get = λ s. let w = s .core .wire in record {
+  get = λ s. let b = s .core .board in record {
     count = s .count;
     learned = getD (s .core .learned) (n - 1) blank;
     says = getD (s .core .says) (n - 1) false;
-    isOpen = getD (w .opens) (n - 1) false;
-    sent = getD (w .sent) (n - 1) 0;
-    responses = getD (w .responses) (n - 1) [];
+    isOpen = getD (b .opens) (n - 1) false;
+    sent = getD (b .sent) (n - 1) 0;
+    responses = getD (b .responses) (n - 1) [];
   };
-  put = λ v s. let w = s .core .wire in withCore (record {
+  put = λ v s. let b = s .core .board in withCore (record {
     desk = s .core .desk;
     learned = s .core .learned;
     says = set (s .core .says) (n - 1) (v .says);
-    wire = record {
-      opens = w .opens;
-      sent = w .sent;
-      requests = w .requests;
-      responses = set (w .responses) (n - 1) (v .responses);
-      ids = w .ids;
-      terms = w .terms;
-      last = w .last;
+    board = record {
+      opens = b .opens;
+      sent = b .sent;
+      requests = b .requests;
+      responses = set (b .responses) (n - 1) (v .responses);
+      ids = b .ids;
+      terms = b .terms;
+      last = b .last;
     };
   }) s;
 }
 
--- ---- the switch's side: whether it runs, the history, the wire
+-- ---- the switch's side: whether it runs, the history, the board
 
 pub record Device : Type 0 where
   pub running : Bool
   pub history : List Write
-  pub wire : Wire
+  pub board : Board
 
 abbrev pub deviceOf : State → Device
-deviceOf s = record { running = s .running; history = s .history; wire = s .core .wire }
+deviceOf s = record { running = s .running; history = s .history; board = s .core .board }
 
 -- A part of the device is a part of the state.
 abbrev pub onDevice : {R W : Type 0} → Part Device R W → Part State R W
 onDevice p = record {
   get = λ s. p .get (deviceOf s);
   put = λ v s. let d = p .put v (deviceOf s) in
-      record { count = s .count; running = d .running; history = d .history; core = withWire (d .wire) (s .core) };
+      record { count = s .count; running = d .running; history = d .history; core = withBoard (d .board) (s .core) };
 }
 
 -- 8: reads whether the switch runs and whether stream n is open; writes the latter.
@@ -133,18 +133,18 @@ pub record Linked : Type 0 where
 
 abbrev pub linkPart : ℕ → Part Device Linked Bool
 linkPart n = record {
-  get = λ d. record { running = d .running; isOpen = getD (d .wire .opens) (n - 1) false };
-  put = λ v d. let w = d .wire in record {
+  get = λ d. record { running = d .running; isOpen = getD (d .board .opens) (n - 1) false };
+  put = λ v d. let b = d .board in record {
     running = d .running;
     history = d .history;
-    wire = record {
-      opens = set (w .opens) (n - 1) v;
-      sent = w .sent;
-      requests = w .requests;
-      responses = w .responses;
-      ids = w .ids;
-      terms = w .terms;
-      last = w .last;
+    board = record {
+      opens = set (b .opens) (n - 1) v;
+      sent = b .sent;
+      requests = b .requests;
+      responses = b .responses;
+      ids = b .ids;
+      terms = b .terms;
+      last = b .last;
     };
   };
 }
@@ -170,26 +170,26 @@ pub record Telling : Type 0 where
 
 abbrev pub tellPart : ℕ → Part Device Told Telling
 tellPart n = record {
-  get = λ d. let w = d .wire in record {
+  get = λ d. let b = d .board in record {
     running = d .running;
-    opens = w .opens;
-    sent = getD (w .sent) (n - 1) 0;
-    requests = getD (w .requests) (n - 1) [];
-    responses = w .responses;
-    ids = w .ids;
-    term = getD (w .terms) (n - 1) 0;
+    opens = b .opens;
+    sent = getD (b .sent) (n - 1) 0;
+    requests = getD (b .requests) (n - 1) [];
+    responses = b .responses;
+    ids = b .ids;
+    term = getD (b .terms) (n - 1) 0;
   };
-  put = λ v d. let w = d .wire in record {
+  put = λ v d. let b = d .board in record {
     running = d .running;
     history = d .history;
-    wire = record {
-      opens = set (w .opens) (n - 1) (v .isOpen);
-      sent = set (w .sent) (n - 1) (v .sent);
-      requests = set (w .requests) (n - 1) (v .requests);
+    board = record {
+      opens = set (b .opens) (n - 1) (v .isOpen);
+      sent = set (b .sent) (n - 1) (v .sent);
+      requests = set (b .requests) (n - 1) (v .requests);
       responses = v .responses;
-      ids = set (w .ids) (n - 1) (v .id);
-      terms = set (w .terms) (n - 1) (v .term);
-      last = w .last;
+      ids = set (b .ids) (n - 1) (v .id);
+      terms = set (b .terms) (n - 1) (v .term);
+      last = b .last;
     };
   };
 }
@@ -214,40 +214,40 @@ pub record Serving : Type 0 where
 
 abbrev pub servePart : ℕ → Part Device Served Serving
 servePart n = record {
-  get = λ d. let w = d .wire in record {
+  get = λ d. let b = d .board in record {
     running = d .running;
-    isOpen = getD (w .opens) (n - 1) false;
-    requests = getD (w .requests) (n - 1) [];
-    responses = getD (w .responses) (n - 1) [];
-    ids = w .ids;
-    term = getD (w .terms) (n - 1) 0;
-    last = w .last;
+    isOpen = getD (b .opens) (n - 1) false;
+    requests = getD (b .requests) (n - 1) [];
+    responses = getD (b .responses) (n - 1) [];
+    ids = b .ids;
+    term = getD (b .terms) (n - 1) 0;
+    last = b .last;
     writes = length (d .history);
   };
-  put = λ v d. let w = d .wire in record {
+  put = λ v d. let b = d .board in record {
     running = d .running;
     history = d .history ++ v .accepted;
-    wire = record {
-      opens = w .opens;
-      sent = w .sent;
-      requests = set (w .requests) (n - 1) (v .requests);
-      responses = set (w .responses) (n - 1) (v .responses);
-      ids = w .ids;
-      terms = w .terms;
+    board = record {
+      opens = b .opens;
+      sent = b .sent;
+      requests = set (b .requests) (n - 1) (v .requests);
+      responses = set (b .responses) (n - 1) (v .responses);
+      ids = b .ids;
+      terms = b .terms;
       last = v .last;
     };
   };
 }
 
--- 12, 13: whether the switch runs, and the wire.
+-- 12, 13: whether the switch runs, and the board.
 pub record Power : Type 0 where
   pub running : Bool
-  pub wire : Wire
+  pub board : Board
 
 abbrev pub powerPart : Part Device Power Power
 powerPart = record {
-  get = λ d. record { running = d .running; wire = d .wire };
-  put = λ v d. record { running = v .running; history = d .history; wire = v .wire };
+  get = λ d. record { running = d .running; board = d .board };
+  put = λ v d. record { running = v .running; history = d .history; board = v .board };
 }
 
 -- ---- the classes of steps, and the part of each

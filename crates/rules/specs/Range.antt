@@ -5,7 +5,7 @@ use Prim.Native.Nat.{ℕ, zero, suc}
 use lib.ListN.{length, getD}
 use lib.Dec.{leb, eqb}
 use Rattle.rules.specs.Limits.{mostNodes, topTerm, topId, queueLength, historyLength}
-use Rattle.rules.specs.State.{Mastership, Message, update, write, Status, ok, alreadyExists, permissionDenied, Request, Response, Write, Desk, Wire, Core, State}
+use Rattle.rules.specs.State.{Mastership, Message, update, write, Status, ok, alreadyExists, permissionDenied, Request, Response, Write, Desk, Board, Core, State}
 use Rattle.rules.specs.Queues.{has, empty}
 
 -- ---- of any list
@@ -79,18 +79,18 @@ streamFits isOpen sent requests responses id term =
     leb sent topTerm && queueFits requestFits requests && queueFits responseFits responses && leb id topId && leb term topTerm
     && (isOpen || (eqb sent 0 && empty requests && empty responses && eqb id 0 && eqb term 0))
 
-abbrev pub streamFitsAt : Wire → ℕ → Bool
-streamFitsAt w i =
-    streamFits (getD (w .opens) i false) (getD (w .sent) i 0) (getD (w .requests) i []) (getD (w .responses) i []) (getD (w .ids) i 0) (getD (w .terms) i 0)
+abbrev pub streamFitsAt : Board → ℕ → Bool
+streamFitsAt b i =
+    streamFits (getD (b .opens) i false) (getD (b .sent) i 0) (getD (b .requests) i []) (getD (b .responses) i []) (getD (b .ids) i 0) (getD (b .terms) i 0)
 
-unfoldable pub wireFits : ℕ → Bool → Wire → Bool
-wireFits count running w =
-    eqb (length (w .opens)) count && eqb (length (w .sent)) count && eqb (length (w .requests)) count && eqb (length (w .responses)) count
-    && eqb (length (w .ids)) count && eqb (length (w .terms)) count
-    && each count (streamFitsAt w)
-    && distinctIds (w .ids)
-    && (running || all not (w .opens))
-    && leb (w .last) topTerm
+unfoldable pub boardFits : ℕ → Bool → Board → Bool
+boardFits count running b =
+    eqb (length (b .opens)) count && eqb (length (b .sent)) count && eqb (length (b .requests)) count && eqb (length (b .responses)) count
+    && eqb (length (b .ids)) count && eqb (length (b .terms)) count
+    && each count (streamFitsAt b)
+    && distinctIds (b .ids)
+    && (running || all not (b .opens))
+    && leb (b .last) topTerm
 
 -- ---- the state
 
@@ -102,7 +102,7 @@ coreFits count running c =
     deskFits count (c .desk)
     && eqb (length (c .learned)) count && all (learnedFits count) (c .learned)
     && eqb (length (c .says)) count
-    && wireFits count running (c .wire)
+    && boardFits count running (c .board)
 
 unfoldable pub inRange : State → Bool
 inRange s =

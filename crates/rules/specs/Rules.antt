@@ -5,7 +5,7 @@ use Prim.Native.Nat.{ℕ, _+_, _-_}
 use lib.ListN.{getD, set}
 use lib.Dec.{leb, ltb, eqb}
 use Rattle.rules.specs.Limits.{topTerm, historyLength}
-use Rattle.rules.specs.State.{Mastership, Message, update, write, Status, ok, alreadyExists, permissionDenied, Request, Response, Desk, Wire, blank}
+use Rattle.rules.specs.State.{Mastership, Message, update, write, Status, ok, alreadyExists, permissionDenied, Request, Response, Desk, Board, blank}
 use Rattle.rules.specs.Queues.{push, first, rest, empty, room, roomAll, remove}
 use Rattle.rules.specs.Ids.{electionId, termOf, named, idFor}
 use Rattle.rules.specs.Part.{Rule, always}
@@ -256,15 +256,15 @@ handleWriteRule n = record {
 }
 
 -- Every stream closed, with nobody told.
-unfoldable pub cleared : Wire → Wire
-cleared w = record {
-  opens = map (λ o. false) (w .opens);
-  sent = map (λ t. 0) (w .sent);
-  requests = map (λ q. []) (w .requests);
-  responses = map (λ q. []) (w .responses);
-  ids = map (λ i. 0) (w .ids);
-  terms = map (λ t. 0) (w .terms);
-  last = w .last;
+unfoldable pub cleared : Board → Board
+cleared b = record {
+  opens = map (λ o. false) (b .opens);
+  sent = map (λ t. 0) (b .sent);
+  requests = map (λ q. []) (b .requests);
+  responses = map (λ q. []) (b .responses);
+  ids = map (λ i. 0) (b .ids);
+  terms = map (λ t. 0) (b .terms);
+  last = b .last;
 }
 
 -- 12 Shutdown.
@@ -274,7 +274,7 @@ shutdownRule = record {
   termLeft = always;
   historyLeft = always;
   queuesLeft = always;
-  effect = λ v. record { running = false; wire = cleared (v .wire) };
+  effect = λ v. record { running = false; board = cleared (v .board) };
 }
 
 -- 13 Startup.
@@ -284,7 +284,7 @@ startupRule = record {
   termLeft = always;
   historyLeft = always;
   queuesLeft = always;
-  effect = λ v. record { running = true; wire = v .wire };
+  effect = λ v. record { running = true; board = v .board };
 }
 
 -- ---- the kinds

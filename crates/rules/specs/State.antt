@@ -37,9 +37,9 @@ pub record Desk : Type 0 where
   pub service : Mastership
   pub events : List (List Mastership)
 
--- Of each stream: whether it is open, the term last sent on it, its requests and its responses.
+-- The switch's board. Of each stream: whether it is open, the term last sent on it, its requests and its responses.
 -- Of each node, as the switch holds it: the election id and the term. And the last accepted term.
-pub record Wire : Type 0 where
+pub record Board : Type 0 where
   pub opens : List Bool
   pub sent : List ℕ
   pub requests : List (List Request)
@@ -53,7 +53,7 @@ pub record Core : Type 0 where
   pub desk : Desk
   pub learned : List Mastership
   pub says : List Bool
-  pub wire : Wire
+  pub board : Board
 
 pub record State : Type 0 where
   pub count : ℕ

@@ -5,7 +5,7 @@ use mathlib.Core.List.{List, [], _∷_}
 use Prim.Native.Nat.{ℕ}
 use lib.ListN.{getD, replicate}
 use lib.Dec.{eqb}
-use Rattle.rules.specs.Codes.{outOfRange, unknownKind, unknownNode}
+use Rattle.rules.specs.Codes.{outOfRange, unknownKind, wrongNode}
 use Rattle.rules.specs.State.{State, blank}
 use Rattle.rules.specs.Range.{within, inRange}
 use Rattle.rules.specs.Part.{Result, via, decide}
@@ -24,6 +24,22 @@ kinds = none ∷ some join ∷ some leave ∷ some learns ∷ some sendUpdate �
 
 abbrev pub kindOf : ℕ → Option Kind
 kindOf k = getD kinds k none
+
+-- The number of a kind: the way back, by `of-number` in rules_laws/specs/Kinds.
+abbrev pub numberOf : Kind → ℕ
+numberOf join = 1
+numberOf leave = 2
+numberOf learns = 3
+numberOf sendUpdate = 4
+numberOf receiveUpdate = 5
+numberOf sendWrite = 6
+numberOf receiveWrite = 7
+numberOf connect = 8
+numberOf close = 9
+numberOf handleUpdate = 10
+numberOf handleWrite = 11
+numberOf shutdown = 12
+numberOf startup = 13
 
 -- The node that a class calls for: one of the N, or 0 for 12 and 13.
 abbrev pub called : Class → ℕ → ℕ → Bool
@@ -45,7 +61,7 @@ refused a s = record { answer = a; state = s }
 
 abbrev pub atNode : Bool → Kind → ℕ → State → Result ℕ State
 atNode true k n s = act k n s
-atNode false k n s = refused unknownNode s
+atNode false k n s = refused wrongNode s
 
 abbrev pub ofKind : Option Kind → ℕ → State → Result ℕ State
 ofKind none n s = refused unknownKind s
@@ -69,7 +85,7 @@ fresh count = record {
     desk = record { service = blank; events = replicate count [] };
     learned = replicate count blank;
     says = replicate count false;
-    wire = record {
+    board = record {
       opens = replicate count false;
       sent = replicate count 0;
       requests = replicate count [];

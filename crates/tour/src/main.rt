@@ -6,7 +6,7 @@
 //     =O0  =C0      the open streams: their word, and how many there are
 //     =W0  =T0      the accepted write at place 0: its node, and its term
 use files::Input;
-use state::State;
+use step_state::State;
 
 // A number, and the state from then on.
 struct Shown {
@@ -15,12 +15,12 @@ struct Shown {
 }
 
 fn looked(state: State, what: u8, n: u8) -> u64 {
-    let open = stepper::open_streams(state);
+    let open = step::open_streams(state);
     if what == b'O' {
         return open.word as u64;
     }
     if what == b'C' {
-        return open.count as u64;
+        return open.number as u64;
     }
     let history = state.history;
     let at = n as usize;
@@ -34,7 +34,7 @@ fn looked(state: State, what: u8, n: u8) -> u64 {
 
 fn answer(state: State, what: u8, n: u8) -> Shown {
     if what == b'F' {
-        let made = stepper::fresh(n);
+        let made = step::fresh(n);
         let next = made.state;
         return Shown {
             number: made.code as u64,
@@ -47,7 +47,7 @@ fn answer(state: State, what: u8, n: u8) -> Shown {
             state: state,
         };
     }
-    let stepped = stepper::step(state, what & 31, n);
+    let stepped = step::step(state, what & 31, n);
     let next = stepped.state;
     Shown {
         number: stepped.code as u64,
@@ -66,7 +66,7 @@ fn printed(text: &[u8], number: u64) -> bool {
 }
 
 fn play(script: &[u8]) {
-    let made = stepper::fresh(1);
+    let made = step::fresh(1);
     let mut state = made.state;
     let mut from: usize = 0;
     let mut i: usize = 0;

@@ -4,11 +4,11 @@ use mathlib.Core.List.{List}
 use Prim.Native.Nat.{ℕ, _+_, _*_}
 use lib.Dec.{eqb, leb, ltb}
 use lib.ListN.{length, getD, take, drop}
-use Rattle.wire.specs.Numbers.{codeOf}
-use Rattle.wire.specs.Messages.{Reading, whole, broken}
-use Rattle.update.specs.Update.{reading}
-use Rattle.update.specs.Seen.{seen, refusedRaw, rawOf}
-use Rattle.update.specs.declared.Raw.{Raw}
+use Rattle.wire_fields.specs.Numbers.{codeOf}
+use Rattle.wire_fields.specs.Messages.{Reading, whole, broken}
+use Rattle.wire_arbitration.specs.Update.{reading}
+use Rattle.wire_arbitration.specs.Seen.{seen, refusedRaw, rawOf}
+use Rattle.wire_arbitration.specs.declared.Raw.{Raw}
 use Rattle.wire_frames.specs.Stream.{Carried, nothing, arbitration, other, carried}
 use Rattle.wire_frames.specs.declared.Frame.{Frame}
 

@@ -9,10 +9,10 @@ use lib.Dec.{leb, eqb}
 use lib.ListN.{length, getD, take, drop, length-drop}
 use lib.Seq.{length-take-le}
 use borrow.Author.Tests.{eq-eqb, ne-eqb, leb-true, le-leb, lt-leb}
-use Rattle.wire.specs.Messages.{Reading, whole, broken}
-use Rattle.update.specs.Update.{reading}
-use Rattle.update.specs.Seen.{rawOf}
-use Rattle.update.specs.declared.Raw.{Raw}
+use Rattle.wire_fields.specs.Messages.{Reading, whole, broken}
+use Rattle.wire_arbitration.specs.Update.{reading}
+use Rattle.wire_arbitration.specs.Seen.{rawOf}
+use Rattle.wire_arbitration.specs.declared.Raw.{Raw}
 use Rattle.wire_frames.specs.Stream.{Carried, nothing, arbitration, other, carried}
 use Rattle.wire_frames.specs.Frames.{heldLength, frame, cutShort, compressed, framed, refused, messageOf, frameOf, frameAt, streamed, looksStreamed}
 use Rattle.wire_frames.specs.declared.Frame.{Frame}

@@ -1,3 +1,5 @@
+-- Believed: Stream, Frames.
+-- Laws: Streaming, Framing, Sample.
 pub mod Stream
 pub mod Frames
 pub mod Streaming

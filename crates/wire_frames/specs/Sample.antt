@@ -2,11 +2,11 @@
 use mathlib.Core.Path.{_≡_, refl}
 use mathlib.Core.Option.{none, some}
 use mathlib.Core.List.{[], _∷_}
-use Rattle.wire.specs.Numbers as Numbers
-use Rattle.wire.specs.Numbers.{cutShort}
-use Rattle.wire.specs.Fields as Fields
-use Rattle.wire.specs.Messages as Messages
-use Rattle.wire.specs.Messages.{whole, broken}
+use Rattle.wire_fields.specs.Numbers as Numbers
+use Rattle.wire_fields.specs.Numbers.{cutShort}
+use Rattle.wire_fields.specs.Fields as Fields
+use Rattle.wire_fields.specs.Messages as Messages
+use Rattle.wire_fields.specs.Messages.{whole, broken}
 use Rattle.wire_frames.specs.Stream.{arbitration, other, carried}
 use Rattle.wire_frames.specs.Frames.{framed, frame, heldLength, refused, frameAt}
 

@@ -6,9 +6,9 @@ use mathlib.Core.Bool.{Bool, cond, _&&_}
 use mathlib.Core.List.{List}
 use Prim.Native.Nat.{ℕ}
 use lib.Dec.{eqb, leb}
-use Rattle.wire.specs.Fields.{Field, varint, fixed, bytes}
-use Rattle.wire.specs.Messages.{Reading, whole, mapped, message}
-use Rattle.update.specs.Update as Update
+use Rattle.wire_fields.specs.Fields.{Field, varint, fixed, bytes}
+use Rattle.wire_fields.specs.Messages.{Reading, whole, mapped, message}
+use Rattle.wire_arbitration.specs.Update as Update
 
 -- Which alternative a message carries, by its field number; of an arbitration message what it says. What the others hold is not looked into.
 pub data Carried : Type 0 where

@@ -8,19 +8,19 @@ use native.Mathlib.Omega.{arith}
 use lib.Dec.{eqb, leb}
 use lib.ListN.{length, take, drop}
 use borrow.Author.Tests.{eq-eqb, ne-eqb, eqb-false, le-leb, lt-leb}
-use Rattle.wire.specs.Numbers.{Fault, codeOf}
-use Rattle.wire.specs.Fields.{Field, varint, fixed, bytes}
-use Rattle.wire.specs.Messages.{Reading, whole, broken, mapped, message}
-use Rattle.wire.specs.Places as Places
-use Rattle.wire.specs.Places.{fieldOf}
-use Rattle.wire.specs.Found.{FoundField, NoField, some-code}
-use Rattle.wire.specs.Walking.{Walking, walking-starts, walking-ends, walking-faults, walking-on, walking-breaks}
-use Rattle.wire.specs.declared.Field as Placed
-use Rattle.update.specs.Update as Update
-use Rattle.update.specs.Seen.{seen, refusedRaw, settled, rawOf}
-use Rattle.update.specs.Raw.{messageOnto}
-use Rattle.update.specs.Seeing.{sees-onto}
-use Rattle.update.specs.declared.Raw.{Raw}
+use Rattle.wire_fields.specs.Numbers.{Fault, codeOf}
+use Rattle.wire_fields.specs.Fields.{Field, varint, fixed, bytes}
+use Rattle.wire_fields.specs.Messages.{Reading, whole, broken, mapped, message}
+use Rattle.wire_fields.specs.Places as Places
+use Rattle.wire_fields.specs.Places.{fieldOf}
+use Rattle.wire_fields.specs.Found.{FoundField, NoField, some-code}
+use Rattle.wire_fields.specs.Walking.{Walking, walking-starts, walking-ends, walking-faults, walking-on, walking-breaks}
+use Rattle.wire_fields.specs.declared.Field as Placed
+use Rattle.wire_arbitration.specs.Update as Update
+use Rattle.wire_arbitration.specs.Seen.{seen, refusedRaw, settled, rawOf}
+use Rattle.wire_arbitration.specs.Raw.{messageOnto}
+use Rattle.wire_arbitration.specs.Seeing.{sees-onto}
+use Rattle.wire_arbitration.specs.declared.Raw.{Raw}
 use Rattle.wire_frames.specs.Stream.{Carried, nothing, arbitration, other, known, took, carried}
 use Rattle.wire_frames.specs.Frames.{refused, told, messageOf}
 use Rattle.wire_frames.specs.declared.Frame.{Frame}

@@ -2,13 +2,13 @@
 ghost use mathlib.Core.Path.{_≡_};
 ghost use Prim.Native.Nat.{_≤_};
 ghost use lib.ListN.{length};
-ghost use Rattle.wire.specs.Places.{fieldOf};
+ghost use Rattle.wire_fields.specs.Places.{fieldOf};
 ghost use Rattle.wire_frames.specs.Stream.{carried};
 ghost use Rattle.wire_frames.specs.Frames as Frames;
 ghost use Rattle.wire_frames.specs.Frames.{heldLength, messageOf, frameAt, looksStreamed};
 ghost use Rattle.wire_frames.specs.Streaming.{Takes};
-use update::Raw;
-use wire::Field;
+use wire_arbitration::Raw;
+use wire_fields::Field;
 
 // The bytes end before the frame does.
 pub const FRAME_CUT_SHORT: u8 = 21;
@@ -42,7 +42,7 @@ pub fn refused(code: u8) -> Frame
     ensures { λ r. ⌜ r ≡ Frames.refused code ⌝ }
 {
     let fields = Raw {
-        code: wire::READ,
+        code: wire_fields::READ,
         role: false,
         election: false,
         status: false,
@@ -65,19 +65,19 @@ fn take(message: &[u8], field: Field, known: Frame) -> Frame
     requires { ⌜ (field .start ≤ field .next) × (field .next ≤ length (now message)) ⌝ }
     ensures { λ r. ⌜ Takes (fieldOf (now (message .entry)) field) known r ⌝ }
 {
-    if field.kind < wire::BYTES {
+    if field.kind < wire_fields::BYTES {
         return known;
     }
     if field.number == ARBITRATION_FIELD {
         let start = field.start;
         let end = field.next;
         let before = known.fields;
-        let fields = update::read_onto(&message[start..end], before);
-        if fields.code != wire::READ {
+        let fields = wire_arbitration::read_onto(&message[start..end], before);
+        if fields.code != wire_fields::READ {
             return refused(fields.code);
         }
         return Frame {
-            code: wire::READ,
+            code: wire_fields::READ,
             kind: ARBITRATION,
             size: known.size,
             fields: fields,
@@ -89,7 +89,7 @@ fn take(message: &[u8], field: Field, known: Frame) -> Frame
     if LAST_OTHER < field.number {
         return known;
     }
-    let mut other = refused(wire::READ);
+    let mut other = refused(wire_fields::READ);
     other.kind = field.number as u8;
     other.size = known.size;
     other
@@ -99,16 +99,16 @@ fn take(message: &[u8], field: Field, known: Frame) -> Frame
 pub fn read_message(message: &[u8], size: usize) -> Frame
     ensures { λ r. ⌜ r ≡ messageOf size (carried (now (message .entry))) ⌝ }
 {
-    let mut known = refused(wire::READ);
+    let mut known = refused(wire_fields::READ);
     known.size = size;
     let mut at = 0;
     while at < message.len() {
-        let field = wire::read_field(message, at);
-        if field.code != wire::READ {
+        let field = wire_fields::read_field(message, at);
+        if field.code != wire_fields::READ {
             return refused(field.code);
         }
         known = take(message, field, known);
-        if known.code != wire::READ {
+        if known.code != wire_fields::READ {
             return known;
         }
         at = field.next;
@@ -166,7 +166,7 @@ pub fn looks_streamed(message: &[u8]) -> bool
     if carried.kind != ARBITRATION {
         return false;
     }
-    let read = update::read_raw(message);
+    let read = wire_arbitration::read_raw(message);
     if read.role {
         return false;
     }

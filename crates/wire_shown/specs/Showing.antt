@@ -5,9 +5,9 @@ use mathlib.Core.List.{[], _∷_, _++_}
 use Prim.Native.Nat.{ℕ}
 use native.Mathlib.Omega.{arith}
 use borrow.Author.Tests.{eq-eqb, ne-eqb}
-use Rattle.text.specs.Decimal.{decimal}
-use Rattle.text.specs.Line.{line}
-use Rattle.printout.specs.Printout.{fieldLines}
+use Rattle.any_text.specs.Decimal.{decimal}
+use Rattle.any_text.specs.Line.{line}
+use Rattle.wire_text.specs.Printout.{fieldLines}
 use Rattle.wire_frames.specs.declared.Frame.{Frame}
 use Rattle.wire_shown.specs.Shown.{nothingWord, arbitrationWord, packetWord, fieldWord, refusedWord, carriedText, frameText}
 

@@ -3,9 +3,9 @@ use mathlib.Core.Bool.{cond}
 use mathlib.Core.List.{List, [], _∷_, _++_}
 use Prim.Native.Nat.{ℕ}
 use lib.Dec.{eqb}
-use Rattle.text.specs.Decimal.{decimal}
-use Rattle.text.specs.Line.{line}
-use Rattle.printout.specs.Printout.{fieldLines}
+use Rattle.any_text.specs.Decimal.{decimal}
+use Rattle.any_text.specs.Line.{line}
+use Rattle.wire_text.specs.Printout.{fieldLines}
 use Rattle.wire_frames.specs.declared.Frame.{Frame}
 
 -- " nothing" and a newline

@@ -1,7 +1,7 @@
 // What the program `captured` prints for a frame, as one text.
 ghost use Prim.Native.Nat.{_+_, _≤_};
 ghost use lib.ListN.{length};
-ghost use Rattle.text.specs.Put.{Put};
+ghost use Rattle.any_text.specs.Put.{Put};
 ghost use Rattle.wire_shown.specs.Shown.{carriedText, frameText, endText};
 use wire_frames::Frame;
 
@@ -14,14 +14,14 @@ fn put_carried(buf: &mut [u8], at: usize, frame: Frame) -> usize
 {
     let kind = frame.kind;
     match kind {
-        0 => text::put_word(buf, at, b" nothing\n"),
+        0 => any_text::put_word(buf, at, b" nothing\n"),
         1 => {
-            let next = text::put_word(buf, at, b" arbitration\n");
+            let next = any_text::put_word(buf, at, b" arbitration\n");
             let fields = frame.fields;
-            printout::put_fields(buf, next, fields)
+            wire_text::put_fields(buf, next, fields)
         }
-        2 => text::put_word(buf, at, b" packet\n"),
-        _ => text::put_line(buf, at, b" field", &[kind as u64]),
+        2 => any_text::put_word(buf, at, b" packet\n"),
+        _ => any_text::put_line(buf, at, b" field", &[kind as u64]),
     }
 }
 
@@ -29,15 +29,15 @@ fn put_carried(buf: &mut [u8], at: usize, frame: Frame) -> usize
 pub fn shown(number: u64, offset: u64, frame: Frame, buf: &mut [u8; LONGEST_TEXT]) -> usize
     ensures { λ r. ⌜ Put (now (buf .entry)) 0 (frameText number offset frame) (now (buf .exit)) r × (r ≤ length (now (buf .exit))) ⌝ }
 {
-    if frame.code != wire::READ {
-        return text::put_line(
+    if frame.code != wire_fields::READ {
+        return any_text::put_line(
             buf,
             0,
             b"refused frame",
             &[number, offset, frame.code as u64],
         );
     }
-    let next = text::put_wide(buf, 0, number);
+    let next = any_text::put_wide(buf, 0, number);
     put_carried(buf, next, frame)
 }
 
@@ -45,5 +45,5 @@ pub fn shown(number: u64, offset: u64, frame: Frame, buf: &mut [u8; LONGEST_TEXT
 pub fn ended(number: u64, buf: &mut [u8; LONGEST_TEXT]) -> usize
     ensures { λ r. ⌜ Put (now (buf .entry)) 0 (endText number) (now (buf .exit)) r × (r ≤ length (now (buf .exit))) ⌝ }
 {
-    text::put_line(buf, 0, b"frames", &[number])
+    any_text::put_line(buf, 0, b"frames", &[number])
 }

@@ -7,9 +7,9 @@ use native.Mathlib.Omega.{arith}
 use lib.ListN.{length, take, drop, length-append, length-drop}
 use lib.Seq.{take-all, sets-eq}
 use borrow.Author.Tests.{eq-eqb, ne-eqb, le-leb, lt-leb}
-use Rattle.text.specs.Put.{Put}
-use Rattle.packed.specs.Bytes.{bufferShort}
-use Rattle.packed.specs.Little.{little-length}
+use Rattle.any_text.specs.Put.{Put}
+use Rattle.wire_bytes.specs.Bytes.{outTooShort}
+use Rattle.wire_bytes.specs.Little.{little-length}
 use Rattle.wire_frames.specs.Frames.{refused, frameAt}
 use Rattle.wire_frames.specs.Framing.{frame-none, frame-inside}
 use Rattle.wire_frames.specs.declared.Frame.{Frame}
@@ -49,7 +49,7 @@ module _ (capture : List ℕ) (at : ℕ) (out : List ℕ) where
 
     module _ (good : f .code ≡ 0) where
       pub tells-short : length out < toldLength → (12 ≡ told capture at out .returned) × (out ≡ told capture at out .out)
-      tells-short short = told-by f is (record { returned = bufferShort; out = out }) (simp (eq-eqb (f .code) 0 good, lt-leb toldLength (length out) short))
+      tells-short short = told-by f is (record { returned = outTooShort; out = out }) (simp (eq-eqb (f .code) 0 good, lt-leb toldLength (length out) short))
 
       pub tells-frame : toldLength ≤ length out → (carrying + f .kind ≡ told capture at out .returned) × (toldBytes at f ++ drop toldLength out ≡ told capture at out .out)
       tells-frame room = told-by f is (record { returned = carrying + f .kind; out = toldBytes at f ++ drop toldLength out }) (simp (eq-eqb (f .code) 0 good, le-leb toldLength (length out) room))

@@ -4,7 +4,7 @@ use mathlib.Core.List.{List, _++_}
 use Prim.Native.Nat.{ℕ, _+_}
 use lib.Dec.{eqb, leb}
 use lib.ListN.{length, drop}
-use Rattle.packed.specs.Bytes.{little, fieldBytes, bufferShort}
+use Rattle.wire_bytes.specs.Bytes.{little, fieldBytes, outTooShort}
 use Rattle.wire_frames.specs.Frames.{frameAt}
 use Rattle.wire_frames.specs.declared.Frame.{Frame}
 
@@ -29,7 +29,7 @@ toldOf at f out =
     cond (eqb (f .code) 0)
     (cond (leb toldLength (length out))
     (record { returned = carrying + f .kind; out = toldBytes at f ++ drop toldLength out })
-    (record { returned = bufferShort; out = out }))
+    (record { returned = outTooShort; out = out }))
     (record { returned = f .code; out = out })
 
 -- The frame that begins at an offset. Behind the end there is none: it is cut short.

@@ -1,9 +1,8 @@
 //! Many calls held against the reading, and what is said of them at the end.
 
 use std::process::ExitCode;
-use std::time::Instant;
 
-use trial::Counts;
+use trial::{Comparison, Counts};
 
 /// A call on some bytes and a buffer.
 pub trait Compared: Clone {
@@ -17,48 +16,24 @@ pub trait Compared: Clone {
     fn lent(&self) -> String;
 }
 
-pub struct Comparison<C> {
-    start: Instant,
-    reached: Counts,
-    /// Counts what a call reached for which the reading returned a number.
+/// Compares the calls that are handed over. `watch` counts what a call reached for which
+/// the reading returned a number.
+pub fn compared<C: Compared>(
+    seed: u64,
+    kind: &str,
+    mut reached: Counts,
     watch: fn(&mut Counts, &C, u32),
-    calls: usize,
-    differences: usize,
-    /// The shortest that differs.
-    smallest: Option<C>,
-}
-
-impl<C: Compared> Comparison<C> {
-    pub fn new(reached: Counts, watch: fn(&mut Counts, &C, u32)) -> Self {
-        let (start, smallest) = (Instant::now(), None);
-        Comparison { start, reached, watch, calls: 0, differences: 0, smallest }
-    }
-
-    pub fn compare(&mut self, call: &C) {
+    hand_over: impl FnOnce(&mut dyn FnMut(&C)),
+) -> ExitCode {
+    let mut comparison = Comparison::begin();
+    hand_over(&mut |call| {
         let (result, difference) = call.compare();
-        self.calls += 1;
-        (self.watch)(&mut self.reached, call, result);
-        if difference.is_none() {
-            return;
-        }
-        self.differences += 1;
-        let shorter = |known: &C| call.input().len() < known.input().len();
-        if self.smallest.as_ref().map_or(true, shorter) {
-            self.smallest = Some(call.clone());
-        }
-    }
-
-    /// Prints what was reached and compared, and gives the exit status.
-    pub fn ended(self, seed: u64, kind: &str) -> ExitCode {
-        self.reached.print();
-        let missing = self.reached.print_missing(&[]);
-        println!("seed {seed}, {:.1?}", self.start.elapsed());
-        if let Some(call) = self.smallest {
-            print_difference(&call);
-        }
-        println!("{} {kind} compared, {} differences", self.calls, self.differences);
-        trial::status(self.differences, missing)
-    }
+        watch(&mut reached, call, result);
+        comparison.count(call, call.input().len(), difference.is_some());
+    });
+    reached.print();
+    let missing = reached.print_missing(&[]);
+    comparison.end(seed, kind, missing, print_difference)
 }
 
 fn print_difference<C: Compared>(call: &C) {

@@ -4,7 +4,7 @@ mod comparison;
 mod frame;
 mod message;
 
-pub use comparison::{Compared, Comparison};
+pub use comparison::{compared, Compared};
 pub use frame::FrameCall;
 pub use message::Call;
 

@@ -3,6 +3,7 @@
 use pairs::{Known, Pair};
 use trial::Lent;
 
+#[derive(Clone)]
 pub struct Call {
     pub pair: Pair,
     /// Length of the buffer for the places.

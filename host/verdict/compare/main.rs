@@ -10,11 +10,10 @@ mod cases;
 mod reached;
 
 use std::process::ExitCode;
-use std::time::Instant;
 
 use call::Call;
 use random::Random;
-use trial::Arguments;
+use trial::{Arguments, Comparison};
 
 const USUAL_NUMBER: usize = 12_000;
 
@@ -23,28 +22,20 @@ fn main() -> ExitCode {
 }
 
 fn compare(Arguments { seed, number }: Arguments) -> ExitCode {
-    let start = Instant::now();
     let mut random = Random::from_seed(seed);
     let mut reached = reached::nothing();
-    let mut differing: Vec<Call> = Vec::new();
+    let mut comparison = Comparison::begin();
     let built = cases::built(&mut random);
     let drawn = std::iter::repeat_with(|| cases::drawn(&mut random));
     for call in built.into_iter().chain(drawn).take(number) {
         let (result, difference) = call.compare();
         reached::watch(&mut reached, &call, result);
-        if difference.is_some() {
-            differing.push(call);
-        }
+        let size = call.pair.first.len() + call.pair.second.len();
+        comparison.count(&call, size, difference.is_some());
     }
     reached.print();
     let missing = reached.print_missing(&[]);
-    println!("seed {seed}, {:.1?}", start.elapsed());
-    let size = |call: &&Call| call.pair.first.len() + call.pair.second.len();
-    if let Some(call) = differing.iter().min_by_key(size) {
-        print_difference(call);
-    }
-    println!("{number} pairs of lists compared, {} differences", differing.len());
-    trial::status(differing.len(), missing)
+    comparison.end(seed, "pairs of lists", missing, print_difference)
 }
 
 fn print_difference(call: &Call) {

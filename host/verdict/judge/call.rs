@@ -7,7 +7,7 @@ use crate::verdict::{verdict, Verdict};
 
 pub const PLACES_BYTES: usize = 8;
 
-const BUFFER_SHORT: u32 = 12;
+const OUT_TOO_SHORT: u32 = 12;
 const SECOND: u32 = 16;
 const NODES_DIFFER: u32 = 28;
 const SAME: u32 = 256;
@@ -32,7 +32,7 @@ pub fn same_merge(first: &[u8], second: &[u8], places: &mut [u8]) -> u32 {
 fn judged(first: &[u8], second: &[u8], room: usize) -> Result<Verdict, u32> {
     let first = EventList::read(first).map_err(|refusal| refusal as u32)?;
     if room < PLACES_BYTES {
-        return Err(BUFFER_SHORT);
+        return Err(OUT_TOO_SHORT);
     }
     let second = EventList::read(second).map_err(|refusal| SECOND + refusal as u32)?;
     if first.nodes != second.nodes {

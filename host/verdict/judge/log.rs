@@ -1,5 +1,6 @@
 //! A merged log as text: the node count and the clocks' bound on the first line,
-//! then a record a line: log, time, kind, node.
+//! then a record a line: log, time, kind, node. Empty lines are passed over,
+//! before the first as well.
 
 use reference::limits::{MOST_NODES, MOST_RECORDS};
 use reference::Step;
@@ -33,11 +34,12 @@ pub fn read_log(text: &[u8]) -> Result<Log, BadLog> {
     if text.len() > LONGEST_TEXT {
         return Err(BadLog::Long);
     }
-    let mut lines = (1..).zip(text.split(|&byte| byte == b'\n'));
-    let head = lines.next().and_then(|(_, head)| first_line(head));
-    let (nodes, bound) = head.ok_or(BadLog::Line(1))?;
+    let all = (1..).zip(text.split(|&byte| byte == b'\n'));
+    let mut lines = all.filter(|(_, bytes)| !bytes.iter().all(is_blank));
+    let (line, head) = lines.next().ok_or(BadLog::Line(1))?;
+    let (nodes, bound) = first_line(head).ok_or(BadLog::Line(line))?;
     let mut records = Vec::new();
-    for (line, bytes) in lines.filter(|(_, bytes)| !bytes.iter().all(is_blank)) {
+    for (line, bytes) in lines {
         let record = record(line, bytes).filter(|_| records.len() < MOST_RECORDS);
         records.push(record.ok_or(BadLog::Line(line))?);
     }

@@ -147,9 +147,14 @@ fn logs_as_text() {
     let text = b" 2\t10 \r\n\n1 5 3 1\r\n   \n0002 9999999999999999999 255 0";
     let records = vec![record(3, 1, 5, (3, 1)), record(5, 2, 9_999_999_999_999_999_999, (255, 0))];
     assert_eq!(read_log(text), Ok(Log { nodes: 2, bound: 10, records }));
+    let later = vec![record(5, 1, 5, (3, 1))];
+    let read = read_log(b"\n \t\n2 10\n\n1 5 3 1");
+    assert_eq!(read, Ok(Log { nodes: 2, bound: 10, records: later }));
     for (text, line) in [
         ("", 1),
-        ("\n2 10", 1),
+        ("\n \t\n", 1),
+        ("\n2", 2),
+        (" \r\n\n2 1 1", 3),
         ("2", 1),
         ("0 1", 1),
         ("9 1", 1),
@@ -196,6 +201,14 @@ fn texts_of_merges() {
     assert_eq!(merges_text(doubtful.as_bytes()), expected);
     let apart = format!("2 1\n{start}1 10 11 1\n2 12 12 0\n");
     assert_eq!(merges_text(apart.as_bytes()), "same\n");
+    // The shutdown is noted 5 before the write that stands before it.
+    for (bound, word) in [(4, "against"), (5, "doubt")] {
+        let backwards = format!("2 {bound}\n{start}1 20 11 1\n2 15 12 0\n");
+        let expected = format!("{word} 9 1 20 11 1 10 2 15 12 0\ndiffers 1 1 1 0 0\n");
+        assert_eq!(merges_text(backwards.as_bytes()), expected);
+    }
+    let expected = "against 2 1 10 1 1 3 2 5 3 1\nagrees\n";
+    assert_eq!(merges_text(b"2 0\n1 10 1 1\n2 5 3 1\n"), expected);
     assert_eq!(merges_text(b"2 1\n"), "same\n");
     assert_eq!(merges_text(b"2 x\n"), "refused line 1\n");
     let many = "1 9\n".to_string() + &"1 0 1 1\n2 0 1 1\n".repeat(5);

@@ -3,6 +3,7 @@
 use reference::{EventList, Step};
 
 use crate::call::steps;
+use crate::doubt::may_stand_before;
 use crate::history::{difference, history};
 use crate::log::{read_log, BadLog, Log, Logged};
 use crate::verdict::{verdict, Verdict};
@@ -56,7 +57,10 @@ fn doubts_text(log: &Log) -> String {
     let ours = history(log.nodes, &steps_of(&log.records));
     let mut text = String::new();
     for &(x, y) in doubts.iter().take(DOUBTS_SHOWN) {
-        text += &format!("doubt {} {}\n", words(&log.records[x]), words(&log.records[y]));
+        let (early, late) = (&log.records[x], &log.records[y]);
+        let as_they_stand = may_stand_before(log.bound, early, late);
+        let word = if as_they_stand { "doubt" } else { "against" };
+        text += &format!("{word} {} {}\n", words(early), words(late));
         text += &match log.exchanged(x, y) {
             Some(records) => difference(&ours, &history(log.nodes, &steps_of(&records))),
             None => "open\n".to_string(),

@@ -13,6 +13,7 @@ pub enum Known {
     Nothing,
 }
 
+#[derive(Clone)]
 pub struct Pair {
     pub first: Vec<u8>,
     pub second: Vec<u8>,

@@ -2,7 +2,7 @@
 
 use std::path::Path;
 
-use judge::{difference, history, steps_of, Log, LONGEST_TEXT};
+use judge::{difference, history, steps_of, Log, Logged, LONGEST_TEXT};
 use pairs::{log_text, merged, small_log};
 use random::Random;
 use reference::limits::MOST_RECORDS;
@@ -13,8 +13,9 @@ const SMALL: usize = 400;
 const LONGER: usize = 150;
 const WRITTEN_BADLY: usize = 300;
 
-/// Numbers at the ends of their ranges, and past them.
-const EDGES: [&str; 16] = [
+/// Numbers at the ends of their ranges, and past them; a first line behind empty
+/// ones, or none; a pair that stands against the clocks.
+const EDGES: [&str; 24] = [
     "8 0\n1 1 255 255\n2 1 0 0",
     "1 0\n9999999999999999999 9999999999999999999 3 1\n0 0 1 1",
     "2 9999999999999999999\n1 9999999999999999999 3 1\n2 9999999999999999999 1 1",
@@ -31,6 +32,14 @@ const EDGES: [&str; 16] = [
     "2 1\n1 1 1 256",
     "2 1\n1 1 1",
     "2 1\n1 1 1 1 1",
+    "",
+    "\n \t\n",
+    "\n\r\n 2 1\n\n1 1 3 1\n2 1 1 1",
+    "\n\n2",
+    "\n2 1\n1 1 1",
+    "2 0\n1 10 1 1\n2 5 3 1",
+    "2 5\n1 10 1 1\n2 5 3 1",
+    "2 4\n1 10 1 1\n2 5 3 1",
 ];
 
 pub fn all(program: &Program) -> Result<(), String> {
@@ -79,38 +88,59 @@ fn refusals(program: &Program) -> Result<(), String> {
     Ok(())
 }
 
-/// Where the program finds no doubt, all merges that the clocks allow have one
-/// history; where it says that an exchange makes a difference, some merge has
-/// another.
+/// Small logs, some with a record out of its time, held against all of their
+/// merges.
 fn small_ones(program: &Program, random: &mut Random) -> Result<(), String> {
-    let (mut sure, mut differing) = (0, 0);
+    let (mut sure, mut differing, mut against) = (0, 0, 0);
     for _ in 0..SMALL {
-        let log = small_log(random);
+        let mut log = small_log(random);
+        if random.percent(30) {
+            displace(random, &mut log.records);
+        }
         let text = log_text(&log);
         let printed = merges(program, text.as_bytes())?;
         let all = log.merges();
-        let ours = history(log.nodes, &steps_of(&log.records));
-        let others = all.iter().map(|merge| history(log.nodes, &steps_of(merge)));
-        let differences: Vec<String> = others.map(|other| difference(&ours, &other)).collect();
-        let one_history = differences.iter().all(|line| line == "agrees\n");
-        if printed == "same\n" && !one_history {
-            return Err(format!("{text}no doubt, but merges with other histories"));
-        }
-        let said = printed.lines().filter(|line| line.starts_with("differs"));
-        for line in said.clone() {
-            if !differences.contains(&format!("{line}\n")) {
-                return Err(format!("{text}{line}, but no merge does"));
-            }
-        }
+        held_against(&log, &all, &printed).map_err(|fault| text + &fault)?;
         sure += usize::from(printed == "same\n" && all.len() > 1);
-        differing += usize::from(said.count() > 0);
+        differing += usize::from(printed.contains("differs") && all.contains(&log.records));
+        against += usize::from(printed.contains("against"));
     }
     println!("{SMALL} small logs held against all of their merges");
     println!("{sure} with several merges and no doubt, {differing} with one that differs");
-    if sure < 20 || differing < 20 {
+    println!("{against} with a pair against the clocks");
+    if sure < 20 || differing < 20 || against < 20 {
         return Err("too few of a kind".to_string());
     }
     Ok(())
+}
+
+/// Where no doubt is printed, all merges that the clocks allow have one history;
+/// where they allow the merge at hand, no pair is against them, and an exchange
+/// that makes a difference is one of the merges.
+fn held_against(log: &Log, all: &[Vec<Logged>], printed: &str) -> Result<(), String> {
+    let ours = history(log.nodes, &steps_of(&log.records));
+    let others = all.iter().map(|merge| history(log.nodes, &steps_of(merge)));
+    let differences: Vec<String> = others.map(|other| difference(&ours, &other)).collect();
+    if printed == "same\n" && differences.iter().any(|line| line != "agrees\n") {
+        return Err("no doubt, but merges with other histories".to_string());
+    }
+    if !all.contains(&log.records) {
+        return Ok(());
+    }
+    if printed.contains("against") {
+        return Err("against the clocks, but they allow the merge".to_string());
+    }
+    let mut said = printed.lines().filter(|line| line.starts_with("differs"));
+    match said.find(|line| !differences.contains(&format!("{line}\n"))) {
+        Some(line) => Err(format!("{line}, but no merge does")),
+        None => Ok(()),
+    }
+}
+
+/// Moves a record to another place.
+fn displace(random: &mut Random, records: &mut Vec<Logged>) {
+    let moved = records.remove(random.below(records.len()));
+    records.insert(random.between(0, records.len()), moved);
 }
 
 /// A log by habit, with doubts few or many, its records sometimes not in the
@@ -120,15 +150,14 @@ fn longer(random: &mut Random) -> Log {
     let (len, gap) = (random.pick(&[20, 200, 2_000]), random.pick(&[1, 10, 1_000]));
     let mut records = merged(random, nodes, len, gap);
     for _ in 0..random.pick(&[0, 0, 3]).min(records.len()) {
-        let moved = records.remove(random.below(records.len()));
-        records.insert(random.between(0, records.len()), moved);
+        displace(random, &mut records);
     }
     Log { nodes, bound: random.pick(&[0, 1, 5, 100, u64::MAX / 2]), records }
 }
 
 /// The text with other blanks, empty lines and zeros in front, or with a fault.
 fn rewritten(random: &mut Random, text: &str) -> Vec<u8> {
-    let mut bytes = Vec::new();
+    let mut bytes = random.pick(&[&b""[..], b"", b"\n", b" \r\n\n"]).to_vec();
     for byte in text.bytes() {
         let more: &[&[u8]] = match byte {
             b' ' => &[b" ", b"  ", b"\t", b" \r ", b" 0"],

@@ -5,8 +5,8 @@ use native.Mathlib.Omega.{arith}
 use lib.Dec.{eqb}
 use borrow.Author.Needs.{needs}
 use borrow.Author.Tests.{eq-eqb, ne-eqb, lt-ltb, le-ltb}
-use Rattle.update.specs.Update.{reading}
-use Rattle.update.specs.Seen.{rawOf}
+use Rattle.wire_arbitration.specs.Update.{reading}
+use Rattle.wire_arbitration.specs.Seen.{rawOf}
 use Rattle.wire_frames.specs.Stream.{carried}
 use Rattle.wire_frames.specs.Frames.{messageOf, streamed}
 use Rattle.wire_frames.specs.Framing.{looks}

@@ -4,7 +4,7 @@ use Prim.Native.Nat.{_-_}
 use native.Mathlib.Omega.{arith}
 use lib.ListN.{length}
 use borrow.Author.Needs.{needs}
-use Rattle.wire.specs.Found.{found-field, no-field}
+use Rattle.wire_fields.specs.Found.{found-field, no-field}
 use Rattle.wire_frames.specs.Streaming.{Carrying, carrying-starts, carrying-ends, carrying-faults, carrying-on, carrying-breaks}
 use Rattle.wire_frames.proofs.read_message.Statement.{statement}
 use Rattle.wire_frames.proofs.read_message.Tie as tie

@@ -3,7 +3,7 @@ use mathlib.Core.Path.{_≡_, ap, subst, sym}
 use Prim.Native.Nat.{_-_}
 use native.Mathlib.Omega.{arith}
 use borrow.Author.Needs.{needs}
-use Rattle.wire.specs.Places.{fieldOf}
+use Rattle.wire_fields.specs.Places.{fieldOf}
 use Rattle.wire_frames.specs.Frames.{refused}
 use Rattle.wire_frames.specs.Streaming.{Takes, takes-number, takes-below, takes-beyond, takes-other, takes-arbitration, takes-fault}
 use Rattle.wire_frames.specs.declared.Frame.{Frame}

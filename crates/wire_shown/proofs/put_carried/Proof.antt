@@ -2,8 +2,8 @@
 use mathlib.Core.Path.{_≡_}
 use native.Mathlib.Omega.{arith}
 use borrow.Author.Needs.{needs}
-use Rattle.text.specs.Puts.{put-length, put-then}
-use Rattle.printout.specs.Widths.{field-lines-width}
+use Rattle.any_text.specs.Puts.{put-length, put-then}
+use Rattle.wire_text.specs.Widths.{field-lines-width}
 use Rattle.wire_shown.specs.Showing.{shows-nothing, shows-arbitration, shows-packet, shows-field}
 use Rattle.wire_shown.proofs.put_carried.Statement.{statement}
 use Rattle.wire_shown.proofs.put_carried.Tie as tie

@@ -2,8 +2,8 @@
 use mathlib.Core.Path.{_≡_}
 use native.Mathlib.Omega.{arith}
 use borrow.Author.Needs.{needs}
-use Rattle.text.specs.Puts.{put-length, put-then}
-use Rattle.text.specs.Digits.{width}
+use Rattle.any_text.specs.Puts.{put-length, put-then}
+use Rattle.any_text.specs.Digits.{width}
 use Rattle.wire_shown.specs.Showing.{shows-carried, shows-refusal}
 use Rattle.wire_shown.proofs.shown.Statement.{statement}
 use Rattle.wire_shown.proofs.shown.Tie as tie

@@ -3,8 +3,8 @@ use mathlib.Core.Path.{_≡_, _∙_}
 use Prim.Native.Nat.{_+_}
 use native.Mathlib.Omega.{arith}
 use borrow.Author.Needs.{needs}
-use Rattle.text.specs.Puts.{put-then, room-then}
-use Rattle.packed.specs.Reporting.{field-bytes-length}
+use Rattle.any_text.specs.Puts.{put-then, room-then}
+use Rattle.wire_bytes.specs.Reporting.{field-bytes-length}
 use Rattle.wire_told.specs.Telling.{told-length, told-put, tells-nothing, next-inside, tells-refusal, tells-short, tells-frame}
 use Rattle.wire_told.proofs.frame_into.Statement.{statement}
 use Rattle.wire_told.proofs.frame_into.Tie as tie

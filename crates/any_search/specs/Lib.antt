@@ -1,0 +1,5 @@
+-- Believed: Places.
+-- Laws: Seek, Holds.
+pub mod Places
+pub mod Seek
+pub mod Holds

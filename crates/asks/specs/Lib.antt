@@ -1,2 +1,0 @@
-pub mod Classes
-pub mod Kinds

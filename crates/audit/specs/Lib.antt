@@ -1,5 +1,0 @@
-pub mod SameRun
-pub mod Exchanges
-pub mod Buffers
-pub mod Audit
-pub mod Merged

@@ -1,7 +1,0 @@
-pub mod Rows
-pub mod Sized
-pub mod Same
-pub mod Held
-pub mod InOrder
-pub mod Passes
-pub mod Exact

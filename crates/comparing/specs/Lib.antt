@@ -1,6 +1,0 @@
-pub mod Compare
-pub mod Left
-pub mod Obstacles
-pub mod Walk
-pub mod Compared
-pub mod Refusing

@@ -1,0 +1,47 @@
+-- States that tell wrong range tests apart: the only answer of `in_range` to them. Assumes nothing.
+use mathlib.Core.Path.{refl, _∙_}
+use mathlib.Core.Bool.{true, false}
+use mathlib.Core.List.{[], _∷_}
+use lib.Dec.{T}
+use lib.ListN.{set}
+use Rattle.rules.specs.State as S
+use Rattle.rules.specs.Range.{inRange}
+use Rattle.rules.specs.Parts.{onDevice, tellPart}
+use Rattle.rules.specs.Step.{fresh}
+use Rattle.step_state.specs.Hold.{represent, packStream}
+use Rattle.step_state.specs.declared.State.{State}
+use Rattle.step_bridge.specs.Passes.{fits-represent}
+use Rattle.contracts.specs.Contract.{Gives}
+use Rattle.contracts.specs.Opened.{states}
+use Rattle.contracts.specs.Calls.{InRangeMay}
+use Rattle.contracts.specs.Only.{only-in-range}
+
+-- Every state in range, written into structs.
+pub in-range : (s : S.State) → T (inRange s) → Gives InRangeMay (represent s) true tt
+in-range s fits r h m = (only-in-range (represent s) r h m .0 ∙ fits-represent s fits, refl)
+
+-- Two nodes; node 1's stream is closed, and the switch holds term 1 of it.
+abbrev termKept : State
+termKept = represent (onDevice (tellPart 1) .put (record { isOpen = false; sent = 0; requests = []; responses = [] ∷ [] ∷ []; id = 0; term = 1 }) (fresh 2))
+
+pub closed-keeps-term : Gives InRangeMay termKept false tt
+unfolding states
+closed-keeps-term = only-in-range termKept
+
+-- Two nodes; the stream in the third row is open.
+abbrev openAboveN : State
+openAboveN = let s = represent (fresh 2) in record {
+  count = s .count;
+  running = s .running;
+  core = record {
+    service = s .core .service;
+    controllers = s .core .controllers;
+    streams = set (s .core .streams) 2 (packStream true 0 [] []);
+    claims = s .core .claims;
+  };
+  history = s .history;
+}
+
+pub row-above-n : Gives InRangeMay openAboveN false tt
+unfolding states
+row-above-n = only-in-range openAboveN

@@ -1,6 +1,0 @@
-pub mod Exchange
-pub mod Bytes
-pub mod Moves
-pub mod Filling
-pub mod Ran
-pub mod Passing

@@ -1,0 +1,5 @@
+-- Believed: Rows, PairLine.
+-- Laws: Times.
+pub mod Rows
+pub mod PairLine
+pub mod Times

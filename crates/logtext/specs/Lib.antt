@@ -1,7 +1,0 @@
-pub mod Text
-pub mod Words
-pub mod Numbers
-pub mod Scan
-pub mod Log
-pub mod Known
-pub mod Reads

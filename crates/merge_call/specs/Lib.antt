@@ -1,0 +1,4 @@
+-- Believed: Reply.
+-- Laws: Replies.
+pub mod Reply
+pub mod Replies

@@ -1,0 +1,5 @@
+-- Believed: Asks.
+-- Laws: Kinds, Lines.
+pub mod Asks
+pub mod Kinds
+pub mod Lines

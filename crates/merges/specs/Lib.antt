@@ -1,8 +1,0 @@
-pub mod Independent
-pub mod Demand
-pub mod Apart
-pub mod Parts
-pub mod Listed
-pub mod Commutes
-pub mod Exchange
-pub mod Examples

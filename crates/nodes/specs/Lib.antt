@@ -1,2 +1,0 @@
-pub mod Waiting
-pub mod Rules

@@ -1,7 +1,0 @@
-pub mod KeptOut
-pub mod Change
-pub mod Invariant
-pub mod Steps
-pub mod Growing
-pub mod OldMaster
-pub mod Mistakes

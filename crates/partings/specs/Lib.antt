@@ -1,4 +1,0 @@
-pub mod Difference
-pub mod Reads
-pub mod Entries
-pub mod Runs

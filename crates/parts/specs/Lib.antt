@@ -1,4 +1,0 @@
-pub mod Hold
-pub mod Queues
-pub mod Ordered
-pub mod Places

@@ -1,3 +1,0 @@
-pub mod Printout
-pub mod Integers
-pub mod Widths

@@ -1,7 +1,0 @@
-pub mod Tests
-pub mod Places
-pub mod First
-pub mod Masterships
-pub mod Queues
-pub mod Rows
-pub mod Agree

@@ -1,4 +1,0 @@
-pub mod Words
-pub mod Report
-pub mod Says
-pub mod Runs

@@ -1,0 +1,78 @@
+-- Situations of telling: what each stream hears when a stream closes or an update is handled, and what a shutdown keeps. Assumes nothing.
+use mathlib.Core.Bool.{true, false}
+use mathlib.Core.List.{List, [], _∷_}
+use Prim.Native.Nat.{ℕ}
+use lib.ListN.{replicate}
+use Rattle.rules.specs.State.{Response, State}
+use Rattle.rules.specs.Parts.{onDevice, linkPart, tellPart, servePart}
+use Rattle.rules.specs.Step.{Event, fresh}
+use Rattle.rules_cases.specs.Names.{Connect, Close, HandleUpdate, Shutdown, Startup, asksUpdate, isMaster, isNot, by}
+use Rattle.rules_cases.specs.Situation.{Claim, history, last, isOpen, requests, responses, id, Situation}
+
+-- Three open streams: the ids of nodes 1 and 3, the id that node 3 asks for, and the responses of nodes 2 and 3.
+abbrev streams : ℕ → ℕ → ℕ → List Response → List Response → State
+streams i k asked q r =
+    onDevice (tellPart 3) .put (record { isOpen = true; sent = 1; requests = asksUpdate asked 1 ∷ []; responses = [] ∷ q ∷ r ∷ []; id = k; term = 1 })
+    (onDevice (linkPart 2) .put true
+    (onDevice (tellPart 1) .put (record { isOpen = true; sent = 1; requests = []; responses = [] ∷ [] ∷ [] ∷ []; id = i; term = 1 }) (fresh 3)))
+
+-- What a step of node 3 tells each of the three.
+abbrev tells : Event → ℕ → ℕ → ℕ → List Response → List Response → List Response → List Claim → Situation
+tells e i k asked a b c ends = record {
+  start = streams i k asked [] [];
+  steps = e ∷ [];
+  answers = 0 ∷ [];
+  ends = responses 1 a ∷ responses 2 b ∷ responses 3 c ∷ ends;
+}
+
+-- With the responses of node 2 full, or those of node 3.
+abbrev full : List Response
+full = replicate 8 (isNot 5)
+
+abbrev otherFull : Event → ℕ → ℕ → ℕ → ℕ → Situation
+otherFull e i k asked answer = record { start = streams i k asked full []; steps = e ∷ []; answers = answer ∷ []; ends = [] }
+
+abbrev ownFull : Event → ℕ → ℕ → ℕ → ℕ → Situation
+ownFull e i k asked answer = record { start = streams i k asked [] full; steps = e ∷ []; answers = answer ∷ []; ends = [] }
+
+-- Node 3's stream has nothing left.
+abbrev gone : List Claim
+gone = isOpen 3 false ∷ id 3 0 ∷ requests 3 [] ∷ []
+
+-- The last accepted term and the history outlive the streams.
+abbrev restarted : Situation
+restarted = record {
+  start = onDevice (servePart 1) .put (record { requests = []; responses = []; last = 4; accepted = by 1 4 ∷ [] })
+      (onDevice (tellPart 1) .put (record { isOpen = true; sent = 4; requests = []; responses = [] ∷ [] ∷ []; id = 6; term = 4 }) (fresh 2));
+  steps = Shutdown 0 ∷ Connect 1 ∷ Startup 0 ∷ [];
+  answers = 0 ∷ 4 ∷ 0 ∷ [];
+  ends = last 4 ∷ history (by 1 4 ∷ []) ∷ isOpen 1 false ∷ id 1 0 ∷ [];
+}
+
+abbrev pub whoIsTold : List Situation
+whoIsTold =
+    -- 10: where the master stays, only node 3 is told, with the largest id
+    tells (HandleUpdate 3) 5 0 3 [] [] (isNot 5 ∷ []) (id 3 3 ∷ [])
+    ∷ tells (HandleUpdate 3) 3 5 4 [] [] (isMaster 4 ∷ []) (id 3 4 ∷ [])
+    ∷ tells (HandleUpdate 3) 3 5 5 [] [] (isMaster 5 ∷ []) (id 3 5 ∷ [])
+    -- 10: where the master changes, all are told
+    ∷ tells (HandleUpdate 3) 5 0 7 (isNot 7 ∷ []) (isNot 7 ∷ []) (isMaster 7 ∷ []) (id 3 7 ∷ [])
+    -- 10: an id that another holds closes the stream, and its id leaves the election
+    ∷ tells (HandleUpdate 3) 3 5 3 (isMaster 3 ∷ []) (isNot 3 ∷ []) [] gone
+    -- 9: the others are told where the master changes, with the largest id left, 0 if none
+    ∷ tells (Close 3) 3 5 4 (isMaster 3 ∷ []) (isNot 3 ∷ []) [] gone
+    ∷ tells (Close 3) 0 5 4 (isNot 0 ∷ []) (isNot 0 ∷ []) [] gone
+    ∷ tells (Close 3) 5 3 4 [] [] [] gone
+    -- 7: one full stream that would be told stops the step
+    ∷ otherFull (Close 3) 3 5 4 7
+    ∷ otherFull (Close 3) 5 3 4 0
+    ∷ otherFull (HandleUpdate 3) 5 0 7 7
+    ∷ otherFull (HandleUpdate 3) 5 0 3 0
+    -- 7: node 3 is told of its own update, and not of its own closing
+    ∷ ownFull (HandleUpdate 3) 5 0 3 7
+    ∷ ownFull (HandleUpdate 3) 3 5 3 0
+    ∷ ownFull (Close 3) 3 5 4 0
+    -- 12: nobody is told
+    ∷ otherFull (Shutdown 0) 3 5 4 0
+    ∷ restarted
+    ∷ []

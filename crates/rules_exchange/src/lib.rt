@@ -1,0 +1,1 @@
+// Independent steps may change places: read specs/, Independent and Claim first.

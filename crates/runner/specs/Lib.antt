@@ -1,7 +1,0 @@
-pub mod Ran
-pub mod Refusing
-pub mod Tables
-pub mod Advances
-pub mod Running
-pub mod Turning
-pub mod Whole

@@ -1,7 +1,0 @@
-pub mod Tests
-pub mod Columns
-pub mod Tables
-pub mod Padded
-pub mod Queue
-pub mod Rows
-pub mod Search

@@ -1,5 +1,0 @@
-pub mod Asks
-pub mod Rules
-pub mod Removal
-pub mod Posting
-pub mod Masterships

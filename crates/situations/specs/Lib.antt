@@ -1,8 +1,0 @@
-pub mod Names
-pub mod Equal
-pub mod Situation
-pub mod Scope
-pub mod Fresh
-pub mod Alone
-pub mod Told
-pub mod Table

@@ -1,6 +1,0 @@
-pub mod Hold
-pub mod Tidy
-pub mod Order
-pub mod Reads
-pub mod Stores
-pub mod Blank

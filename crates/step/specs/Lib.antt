@@ -1,0 +1,5 @@
+-- Believed: Public.
+-- Laws: Settling, Stepping.
+pub mod Public
+pub mod Settling
+pub mod Stepping

@@ -1,0 +1,4 @@
+-- Definitions: Groups.
+-- Laws: Kinds.
+pub mod Groups
+pub mod Kinds

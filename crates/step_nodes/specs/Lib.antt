@@ -1,0 +1,4 @@
+-- Definitions: Waiting.
+-- Laws: Rules.
+pub mod Waiting
+pub mod Rules

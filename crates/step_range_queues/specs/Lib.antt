@@ -1,0 +1,4 @@
+-- Definitions: Tests.
+-- Laws: Each.
+pub mod Tests
+pub mod Each

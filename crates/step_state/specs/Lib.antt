@@ -1,0 +1,9 @@
+-- Believed: Hold, Tidy.
+-- Definitions: Order, Reads, Stores.
+-- Laws: Blank.
+pub mod Hold
+pub mod Tidy
+pub mod Order
+pub mod Reads
+pub mod Stores
+pub mod Blank

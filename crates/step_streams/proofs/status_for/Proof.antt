@@ -1,0 +1,17 @@
+-- `status_for` meets its contract. Assumes nothing.
+use mathlib.Core.Path.{sym, _∙_}
+use borrow.Author.Tests.{eq-eqb, ne-eqb}
+use Rattle.rules.specs.Election.{masterOf, statusFor}
+use Rattle.step_streams.proofs.status_for.Statement.{statement}
+use Rattle.step_streams.proofs.status_for.Tie as tie
+
+returns : tie.Need-returns
+unfolding statusFor
+returns c = λ ids e. simp (eq-eqb (masterOf ids) (c .before .args .node) (e ∙ c .if1 .taken))
+
+returns-2 : tie.Need-returns-2
+unfolding statusFor
+returns-2 c = λ ids e. simp (ne-eqb (masterOf ids) (c .before .args .node) (λ q. c .if1 .left (sym e ∙ q)))
+
+pub status-for-spec : {M : Type 1} → statement M
+status-for-spec = tie.close (tie.spec returns returns-2)

@@ -1,0 +1,4 @@
+-- Definitions: Asks, Does, Handled.
+pub mod Asks
+pub mod Does
+pub mod Handled

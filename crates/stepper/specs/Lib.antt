@@ -1,3 +1,0 @@
-pub mod Public
-pub mod Settling
-pub mod Stepping

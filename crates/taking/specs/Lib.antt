@@ -1,3 +1,0 @@
-pub mod Row
-pub mod Filling
-pub mod Taking

@@ -1,9 +1,0 @@
-pub mod Decimal
-pub mod Lines
-pub mod Put
-pub mod Digits
-pub mod Widths
-pub mod Puts
-pub mod Line
-pub mod Spacing
-pub mod Sample

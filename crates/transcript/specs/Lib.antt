@@ -1,6 +1,0 @@
-pub mod Transcript
-pub mod Bytes
-pub mod Lines
-pub mod Reading
-pub mod Filled
-pub mod Sample

@@ -1,5 +1,0 @@
-pub mod Words
-pub mod Answer
-pub mod Showing
-pub mod Rows
-pub mod Promise

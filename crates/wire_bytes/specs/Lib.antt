@@ -1,0 +1,5 @@
+-- Believed: Bytes.
+-- Laws: Little, Reporting.
+pub mod Bytes
+pub mod Little
+pub mod Reporting

@@ -1,1 +1,0 @@
-// Theorems about the contracts of what reads captures: no second answer meets one.

@@ -1,0 +1,34 @@
+-- `put_number_line` meets its contract. Assumes nothing.
+use borrow.Author.Needs.{needs}
+use Rattle.any_text.specs.Puts.{puts, put-then, room-then}
+use Rattle.wire_text.proofs.put_number_line.Statement.{statement}
+use Rattle.wire_text.proofs.put_number_line.Tie as tie
+
+put-word-requires : tie.Need-put-word-requires
+put-word-requires c κs = search puts
+
+put-wide-requires : tie.Need-put-wide-requires
+put-wide-requires c κs = search puts
+
+slice-aggregate-put-word : tie.Need-slice-aggregate-put-word
+slice-aggregate-put-word c = search needs
+
+put-word-requires-2 : tie.Need-put-word-requires-2
+put-word-requires-2 c κs = room-then (put-then (c .before .before .before .before .before .before .before .before .put-word .ensures) (c .before .before .before .before .put-wide .ensures)) (c .before .before .before .before .before .before .before .before .before .before .before .before .pre)
+
+same-length : tie.Need-same-length
+same-length c = search needs
+
+returns : tie.Need-returns
+returns c = search puts
+
+pub put-number-line-spec : {M : Type 1} → statement M
+put-number-line-spec =
+    tie.close
+    (tie.spec
+    put-word-requires
+    put-wide-requires
+    slice-aggregate-put-word
+    put-word-requires-2
+    same-length
+    returns)

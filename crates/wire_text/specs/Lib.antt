@@ -1,0 +1,5 @@
+-- Believed: Printout.
+-- Laws: Integers, Widths.
+pub mod Printout
+pub mod Integers
+pub mod Widths

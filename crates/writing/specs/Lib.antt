@@ -1,3 +1,0 @@
-pub mod Asks
-pub mod Does
-pub mod Handled
