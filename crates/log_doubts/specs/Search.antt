@@ -7,9 +7,8 @@ use native.Mathlib.Numerals.{add-one}
 use native.Mathlib.Omega.{arith}
 use native.Mathlib.Decide.{decLt}
 use lib.Dec.{ltb}
-use borrow.Author.Tests.{ltb-true}
+use borrow.Author.Tests.{le-ltb}
 use Rattle.rules.specs.Step.{Event}
-use Rattle.log_read.specs.Numbers.{first-true, both-true}
 use Rattle.any_list.specs.Tables.{table-get}
 use Rattle.merge_verdict.specs.Pairs.{kept, only}
 use Rattle.merge_letters.specs.Letters.{letterOf}
@@ -113,12 +112,17 @@ module _ (test : ℕ → ℕ → Bool) (n : ℕ) where
 
 -- ---- letters
 
-module _ (e : Event) where
-  pub letter-known : ltb (e .kind) 14 && ltb (e .node) 9 ≡ true → 9 * e .kind + e .node ≡ letterOf e
-  letter-known t = ap (λ (b : Bool). cond b (9 * e .kind + e .node) 0) (sym t)
+and-none : (b : Bool) → b && false ≡ false
+and-none true = refl
+and-none false = refl
 
-  pub letter-unknown : ltb (e .kind) 14 && ltb (e .node) 9 ≡ false → 0 ≡ letterOf e
+module _ (e : Event) where
+  letter-unknown : ltb (e .kind) 14 && ltb (e .node) 9 ≡ false → 0 ≡ letterOf e
   letter-unknown t = ap (λ (b : Bool). cond b (9 * e .kind + e .node) 0) (sym t)
 
-  pub letter-fits : ltb (e .kind) 14 && ltb (e .node) 9 ≡ true → (e .kind < 14) × (e .node < 9)
-  letter-fits t = (ltb-true _ _ (first-true (ltb (e .kind) 14) (ltb (e .node) 9) t), ltb-true _ _ (both-true (ltb (e .kind) 14) (ltb (e .node) 9) t))
+  -- Kinds and nodes that do not fit a byte have no letter.
+  pub large-kind : 256 ≤ e .kind → 0 ≡ letterOf e
+  large-kind h = letter-unknown (ap (λ (b : Bool). b && ltb (e .node) 9) (le-ltb (e .kind) 14 (omega arith)))
+
+  pub large-node : 256 ≤ e .node → 0 ≡ letterOf e
+  large-node h = letter-unknown (ap (λ (b : Bool). ltb (e .kind) 14 && b) (le-ltb (e .node) 9 (omega arith)) ∙ and-none (ltb (e .kind) 14))

@@ -39,8 +39,10 @@ fn letter_at(rows: &[u64], i: usize) -> u8
 {
     let kind = rows[ROW * i + AT_KIND];
     let node = rows[ROW * i + AT_NODE];
-    if (kind < 256) & (node < 256) {
-        return merge_letters::letter(kind as u8, node as u8);
+    if kind < 256 {
+        if node < 256 {
+            return merge_letters::letter(kind as u8, node as u8);
+        }
     }
     0
 }

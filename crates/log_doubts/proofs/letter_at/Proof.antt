@@ -1,10 +1,12 @@
 -- `letter_at` meets its contract. Assumes nothing.
-use native.Mathlib.Omega.{arith}
 use Rattle.log_records.specs.Rows.{rowIn}
-use Rattle.log_doubts.specs.Search.{letter-known, letter-unknown, letter-fits}
+use Rattle.log_doubts.specs.Search.{large-kind, large-node}
 use borrow.Author.Needs.{needs}
 use Rattle.log_doubts.proofs.letter_at.Statement.{statement}
 use Rattle.log_doubts.proofs.letter_at.Tie as tie
+
+abbrev start-of : tie.After-shared-slice-known3 → tie.Start
+start-of c = c .before .before .before
 
 mul-kind : tie.Need-mul-kind
 mul-kind c = search needs
@@ -30,20 +32,23 @@ mul-node-2 c = search needs
 shared-slice-read-node : tie.Need-shared-slice-read-node
 shared-slice-read-node c = search needs
 
-mul-result : tie.Need-mul-result
-mul-result c = let z = letter-fits (rowIn (c .before .before .before .args .rows .now) (c .before .before .before .args .i) .logged .event) (c .if1 .taken) in omega arith
+cast-letter : tie.Need-cast-letter
+cast-letter c = search needs
 
-add-result : tie.Need-add-result
-add-result c = let z = letter-fits (rowIn (c .before .before .before .args .rows .now) (c .before .before .before .args .i) .logged .event) (c .if1 .taken) in omega arith
+cast-letter-2 : tie.Need-cast-letter-2
+cast-letter-2 c = search needs
 
-cast-result : tie.Need-cast-result
-cast-result c = let z = letter-fits (rowIn (c .before .before .before .args .rows .now) (c .before .before .before .args .i) .logged .event) (c .if1 .taken) in omega arith
+letter-requires : tie.Need-letter-requires
+letter-requires c κs = search needs
 
 returns : tie.Need-returns
-returns c = letter-known (rowIn (c .before .before .before .args .rows .now) (c .before .before .before .args .i) .logged .event) (c .if1 .taken)
+returns c = search needs
 
 returns-2 : tie.Need-returns-2
-returns-2 c = letter-unknown (rowIn (c .before .before .before .args .rows .now) (c .before .before .before .args .i) .logged .event) (c .if1 .left)
+returns-2 c = let x = start-of (c .before .before) .args in large-node (rowIn (x .rows .now) (x .i) .logged .event) (c .if2 .left)
+
+returns-3 : tie.Need-returns-3
+returns-3 c = let x = start-of (c .before) .args in large-kind (rowIn (x .rows .now) (x .i) .logged .event) (c .if1 .left)
 
 pub letter-at-spec : {M : Type 1} → statement M
 letter-at-spec =
@@ -57,8 +62,9 @@ letter-at-spec =
     add-node
     mul-node-2
     shared-slice-read-node
-    mul-result
-    add-result
-    cast-result
+    cast-letter
+    cast-letter-2
+    letter-requires
     returns
-    returns-2)
+    returns-2
+    returns-3)
