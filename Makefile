@@ -1,6 +1,6 @@
 # make try               run the sample with nothing proved, in seconds
 # make run [LIST=file]   prove and build the program, then run an event list (hex text or bytes)
-# make programs          prove and build all programs: target/bin/replay, compare, merges, arbitration
+# make programs          prove and build all programs: target/bin/replay, compare, merges, arbitration, captured
 # make test              the gate: every proof, every must-fail edit, every test
 # make lib               target/staticlib/libhoefspanker.a for a C host
 # make install PREFIX=   the library, its header, its pkg-config file and the programs
@@ -9,7 +9,7 @@
 LIST ?= examples/sample.hex
 PREFIX ?= /usr/local
 DESTDIR ?=
-PROGRAMS = replay compare merges arbitration
+PROGRAMS = replay compare merges arbitration captured
 LIBRARY = target/staticlib/libhoefspanker.a
 VERSION := $(shell sed -n 's/^.define HOEFSPANKER_VERSION "\(.*\)"$$/\1/p' include/hoefspanker.h)
 
@@ -43,7 +43,7 @@ bench: lib
 
 install: programs $(LIBRARY)
 	install -d "$(DESTDIR)$(PREFIX)/bin" "$(DESTDIR)$(PREFIX)/include" "$(DESTDIR)$(PREFIX)/lib/pkgconfig"
-	install -m 755 target/bin/replay target/bin/compare target/bin/arbitration "$(DESTDIR)$(PREFIX)/bin"
+	install -m 755 target/bin/replay target/bin/compare target/bin/arbitration target/bin/captured "$(DESTDIR)$(PREFIX)/bin"
 	install -m 755 target/bin/merges "$(DESTDIR)$(PREFIX)/bin/merges"
 	install -m 644 include/hoefspanker.h "$(DESTDIR)$(PREFIX)/include"
 	install -m 644 $(LIBRARY) "$(DESTDIR)$(PREFIX)/lib"

@@ -5,8 +5,17 @@ out=build/host
 
 # need COMMAND PACKAGE: installs the package if the command is missing.
 need() {
-    command -v "$1" >/dev/null && return
-    apt-get install -y "$2" || { apt-get update && apt-get install -y "$2"; } || exit 1
+    command -v "$1" >/dev/null || install_package "$2"
+}
+
+# gRPC for Debian's own Python.
+need_grpc() {
+    /usr/bin/python3 -c 'import grpc' 2>/dev/null || install_package python3-grpcio
+}
+
+install_package() {
+    export DEBIAN_FRONTEND=noninteractive
+    apt-get install -y "$1" || { apt-get update && apt-get install -y "$1"; } || exit 1
 }
 
 rust() {

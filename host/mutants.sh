@@ -2,7 +2,7 @@
 # Shows that the comparisons find wrong libraries: each line of a table puts one
 # mistake into a copy of a reference, which then stands in for the library.
 # Prints a line a mistake and 'N found, M missed'. Takes some minutes.
-# Usage: host/mutants.sh [lists] [messages] [verdicts] [logs], by default all.
+# Usage: host/mutants.sh [lists] [messages] [frames] [verdicts] [logs], by default all.
 set -u
 cd "$(dirname "$0")/.." || exit 1
 . host/build.sh
@@ -68,6 +68,10 @@ try_part() {
         try_mistakes host/arbitration/mutants.txt host/arbitration/reading \
             build_compare_messages "$out/compare-messages" 1 10000
         ;;
+    frames)
+        try_mistakes host/arbitration/frame-mutants.txt host/arbitration/reading \
+            build_compare_frames "$out/compare-frames" 1 10000
+        ;;
     verdicts)
         try_mistakes host/verdict/mutants.txt host/verdict/judge \
             build_compare_verdicts "$out/compare-verdicts" 1 6000
@@ -85,7 +89,7 @@ try_part() {
 
 mkdir -p "$out"
 build_reference && build_reading && build_judge || exit 1
-for part in ${*:-lists messages verdicts logs}; do
+for part in ${*:-lists messages frames verdicts logs}; do
     try_part "$part"
 done
 echo "$found found, $missed missed"

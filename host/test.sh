@@ -65,7 +65,8 @@ build_library() {
     if [ "$library" = stand-in ]; then
         programs=$out/stand-in
         stand_in host "$programs" && stand_in_program arbitration "$programs" &&
-            stand_in_program compare "$programs" && stand_in_program merges "$programs" &&
+            stand_in_program captured "$programs" && stand_in_program compare "$programs" &&
+            stand_in_program merges "$programs" &&
             use_library "$programs/libhoefspanker.a"
     else
         use_library "$library"
@@ -83,6 +84,17 @@ test_example() {
     test_that "list too long, $by" refuses_long "$@"
 }
 
+# A capture of real peers. The name of the test says which.
+read_captures() {
+    host/captures/test.sh "$programs/captured" "$out/captures" >"$out/captures.log" 2>&1
+    captures_status=$?
+}
+
+captures_read() {
+    cat "$out/captures.log"
+    return "$captures_status"
+}
+
 # What needs no library.
 prepare() {
     rm -rf "$out" && mkdir -p "$out"
@@ -92,7 +104,10 @@ prepare() {
     need valgrind valgrind
     need xxd xxd
     need protoc protobuf-compiler
-    build_reference && build_reading && build_judge && build_programs && touch "$out/prepared"
+    need tshark tshark
+    need_grpc
+    build_reference && build_reading && build_judge && build_programs && build_captures &&
+        touch "$out/prepared"
 }
 
 the_references() {
@@ -108,6 +123,12 @@ comparisons() {
     test_that "comparison with the reading" "$out/compare-messages"
     test_that "protobuf's own messages built" build_peer
     test_that "protobuf's own messages" "$out/peer" "$programs/arbitration"
+    test_that "comparison of frames built" build_compare_frames
+    test_that "comparison with the reading of frames" "$out/compare-frames"
+    test_that "programs for captures" "$out/captured-frames" "$programs/captured" \
+        "$programs/arbitration"
+    read_captures
+    test_that "captured, $(head -n 1 "$out/captures.log")" captures_read
     test_that "comparison of verdicts built" build_compare_verdicts
     test_that "comparison with the judge" "$out/compare-verdicts"
     test_that "program for merged logs" "$out/programs" merges "$programs/merges" "$out/logs"

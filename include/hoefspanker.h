@@ -1,6 +1,6 @@
 /* Runs a list of P4Runtime mastership arbitration events: 1 to 8 controller
- * nodes, one election service and one switch, from a fresh state. And reads a
- * captured arbitration message.
+ * nodes, one election service and one switch, from a fresh state. And reads
+ * captured arbitration messages, alone or in the frames of a stream.
  *
  * Link with libhoefspanker.a. The library needs no start-up call, allocates
  * nothing, keeps nothing between calls and may be called from any thread. */
@@ -110,6 +110,27 @@
 /* What a message that was read returns. */
 #define HOEFSPANKER_READ 0
 
+/* A capture of one direction of a gRPC stream is frames one after another: a
+ * flag, a length of 4 bytes with the greatest first, and as many bytes, which
+ * are a StreamMessageRequest or StreamMessageResponse of p4runtime.proto 1.0.0.
+ * Of a frame the fields of its arbitration message are put, as above, and all 0
+ * if it carries none; and behind them where the next frame begins. */
+#define HOEFSPANKER_FRAME_BYTES 48
+#define HOEFSPANKER_NEXT_OFFSET_AT 40        /* 8 bytes */
+
+/* What a frame carries: this number plus the field number of the alternative.
+ * Of several the last counts. Which message fields 3 to 5 are depends on the
+ * direction. */
+#define HOEFSPANKER_CARRIES 256
+#define HOEFSPANKER_CARRIES_NOTHING 256
+#define HOEFSPANKER_CARRIES_ARBITRATION 257
+#define HOEFSPANKER_CARRIES_PACKET 258
+
+/* Refusals of a frame, beside those of its message. */
+#define HOEFSPANKER_FRAME_CUT_SHORT 21   /* the bytes end before the frame does */
+#define HOEFSPANKER_FRAME_COMPRESSED 22  /* the flag is not 0 */
+/* And then, of the buffer: HOEFSPANKER_OUT_TOO_SHORT, shorter than 48 bytes. */
+
 #ifdef __cplusplus
 extern "C" {
 #endif
@@ -147,6 +168,29 @@ uint32_t hoefspanker_run(const uint8_t *list, size_t list_len,
  * `message` are never changed. */
 uint32_t hoefspanker_read_arbitration(const uint8_t *message, size_t message_len,
                                       uint8_t *fields, size_t fields_len);
+
+/* Reads the frame that begins `offset` bytes into the `capture_len` bytes at
+ * `capture`, and puts what it says into the `frame_len` bytes at `frame`.
+ *
+ * The caller owes the same as above, of `capture` and `frame`. A capture may have
+ * any length and an offset any value.
+ *
+ * The caller gets HOEFSPANKER_CARRIES plus the field number of the alternative
+ * that the message carries, 0 to 5; the fields and the next offset in the first
+ * 48 bytes of `frame`; and the bytes after them as they were. An arbitration
+ * message given twice in a row is merged, and another alternative in between sets
+ * it aside. What other alternatives hold is not looked into.
+ *
+ * For a frame or a buffer that is refused: the refusal, and `frame` stays as it
+ * was. The flag is judged first, then the length, then the message, then the
+ * buffer. At the end of the capture and behind it the refusal is
+ * HOEFSPANKER_FRAME_CUT_SHORT. The bytes of `capture` are never changed.
+ *
+ * A capture is walked from offset 0, each time to the next offset, as long as the
+ * offset is below `capture_len`. Where a part of a capture is at hand,
+ * HOEFSPANKER_FRAME_CUT_SHORT asks for more of it. */
+uint32_t hoefspanker_read_frame(const uint8_t *capture, size_t capture_len,
+                                size_t offset, uint8_t *frame, size_t frame_len);
 
 /* Compares the lists `first` and `second`: do exchanges of neighbouring
  * independent records lead from the one to the other? Then both accept the same

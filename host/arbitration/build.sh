@@ -10,6 +10,14 @@ build_compare_messages() {
     rust_program arbitration/compare compare-messages
 }
 
+build_compare_frames() {
+    rust_program arbitration/frames compare-frames
+}
+
+build_captures() {
+    rust_program arbitration/programs captured-frames
+}
+
 build_peer() {
     rust_program arbitration/peer peer
 }

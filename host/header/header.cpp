@@ -12,6 +12,9 @@
 #if HOEFSPANKER_CUT_SHORT != 13 || HOEFSPANKER_BAD_TAG != 15
 #error "refusals of a message"
 #endif
+#if HOEFSPANKER_FRAME_CUT_SHORT != 21 || HOEFSPANKER_FRAME_COMPRESSED != 22
+#error "refusals of a frame"
+#endif
 #if HOEFSPANKER_SAME != 256 || HOEFSPANKER_ONLY_SECOND != 259
 #error "verdicts"
 #endif
@@ -34,6 +37,9 @@ static_assert(HOEFSPANKER_MOST_OUT_BYTES
 
 static_assert(HOEFSPANKER_HAS_STATUS_AT + 2 == HOEFSPANKER_FIELD_BYTES,
               "one byte is left behind the fields of a message");
+static_assert(HOEFSPANKER_NEXT_OFFSET_AT == HOEFSPANKER_FIELD_BYTES
+                  && HOEFSPANKER_NEXT_OFFSET_AT + 8 == HOEFSPANKER_FRAME_BYTES,
+              "the next offset stands behind the fields");
 
 static bool runs()
 {
@@ -73,7 +79,23 @@ static bool reads()
         && fields[HOEFSPANKER_HAS_ROLE_AT] == 1 && fields[HOEFSPANKER_HAS_STATUS_AT] == 0;
 }
 
+static bool walks()
+{
+    const uint8_t capture[] = {0, 0, 0, 0, 4, 0x0A, 2, 0x08, 7, 0, 0, 0, 0, 2, 0x12, 0};
+    uint8_t first[HOEFSPANKER_FRAME_BYTES];
+    uint8_t second[HOEFSPANKER_FRAME_BYTES];
+    bool refused = hoefspanker_read_frame(capture, sizeof capture, 1, nullptr, 0)
+        == HOEFSPANKER_FRAME_CUT_SHORT;
+    bool arbitration = hoefspanker_read_frame(capture, sizeof capture, 0, first, sizeof first)
+        == HOEFSPANKER_CARRIES_ARBITRATION;
+    size_t next = first[HOEFSPANKER_NEXT_OFFSET_AT];
+    bool packet = hoefspanker_read_frame(capture, sizeof capture, next, second, sizeof second)
+        == HOEFSPANKER_CARRIES_PACKET;
+    return refused && arbitration && packet && first[HOEFSPANKER_DEVICE_ID_AT] == 7
+        && second[HOEFSPANKER_NEXT_OFFSET_AT] == sizeof capture;
+}
+
 int main()
 {
-    return runs() && reads() && judges() ? 0 : 1;
+    return runs() && reads() && walks() && judges() ? 0 : 1;
 }

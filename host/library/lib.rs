@@ -9,6 +9,13 @@ extern "C" {
         fields: *mut u8,
         fields_len: usize,
     ) -> u32;
+    fn hoefspanker_read_frame(
+        capture: *const u8,
+        capture_len: usize,
+        offset: usize,
+        told: *mut u8,
+        told_len: usize,
+    ) -> u32;
     fn hoefspanker_same_merge(
         first: *const u8,
         first_len: usize,
@@ -45,6 +52,20 @@ pub fn read_arbitration_with_nulls(message: &[u8], fields: &mut [u8]) -> u32 {
     let (message_len, fields_len) = (message.len(), fields.len());
     let (message, fields) = (start(message), start_mut(fields));
     unsafe { hoefspanker_read_arbitration(message, message_len, fields, fields_len) }
+}
+
+/// Reads the frame at an offset of a capture by the library.
+pub fn read_frame(capture: &[u8], offset: usize, told: &mut [u8]) -> u32 {
+    let (capture_len, told_len) = (capture.len(), told.len());
+    let (capture, told) = (capture.as_ptr(), told.as_mut_ptr());
+    unsafe { hoefspanker_read_frame(capture, capture_len, offset, told, told_len) }
+}
+
+/// As `read_frame`, but an empty slice is lent as NULL.
+pub fn read_frame_with_nulls(capture: &[u8], offset: usize, told: &mut [u8]) -> u32 {
+    let (capture_len, told_len) = (capture.len(), told.len());
+    let (capture, told) = (start(capture), start_mut(told));
+    unsafe { hoefspanker_read_frame(capture, capture_len, offset, told, told_len) }
 }
 
 /// Judges two lists by the library.

@@ -30,6 +30,19 @@ pub unsafe extern "C" fn hoefspanker_read_arbitration(
 /// # Safety
 /// As `hoefspanker.h` asks of its callers.
 #[no_mangle]
+pub unsafe extern "C" fn hoefspanker_read_frame(
+    capture: *const u8,
+    capture_len: usize,
+    offset: usize,
+    told: *mut u8,
+    told_len: usize,
+) -> u32 {
+    reading::frame_into(lent(capture, capture_len), offset, lent_mut(told, told_len))
+}
+
+/// # Safety
+/// As `hoefspanker.h` asks of its callers.
+#[no_mangle]
 pub unsafe extern "C" fn hoefspanker_same_merge(
     first: *const u8,
     first_len: usize,

@@ -1,15 +1,17 @@
 //! What every comparison with the library needs: its arguments, buffers to
-//! lend, a count of what it reached, and its end.
+//! lend, programs to run, a count of what it reached, and its end.
 
 mod arguments;
 mod comparison;
 mod lent;
+mod programs;
 mod reached;
 mod shrink;
 
 pub use arguments::{run_with_arguments, Arguments};
 pub use comparison::Comparison;
 pub use lent::Lent;
+pub use programs::{printed, ran};
 pub use reached::Counts;
 pub use shrink::shrunk;
 

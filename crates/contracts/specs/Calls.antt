@@ -7,6 +7,7 @@ use Rattle.step_state.specs.declared.State.{State}
 use Rattle.step.specs.declared.Stepped.{Stepped}
 use Rattle.step.specs.declared.Report.{Report}
 use Rattle.wire_arbitration.specs.declared.Arbitration.{Arbitration}
+use Rattle.wire_frames.specs.declared.Frame.{Frame}
 use Rattle.merge_compare.specs.declared.Finding.{Finding}
 use Rattle.step.proofs.fresh.Reads as Fresh
 use Rattle.step.proofs.step.Reads as Step
@@ -22,9 +23,15 @@ use Rattle.log_text.proofs.answer.Reads as Answer
 use Rattle.wire_arbitration.proofs.read.Reads as Read
 use Rattle.wire_bytes.proofs.read_into.Reads as ReadInto
 use Rattle.wire_text.proofs.printout.Reads as Printout
+use Rattle.wire_frames.proofs.read_frame.Reads as ReadFrame
+use Rattle.wire_frames.proofs.looks_streamed.Reads as LooksStreamed
+use Rattle.wire_told.proofs.frame_into.Reads as FrameInto
+use Rattle.wire_shown.proofs.shown.Reads as Shown
+use Rattle.wire_shown.proofs.ended.Reads as Ended
 use Rattle.hoefspanker.proofs.hoefspanker_run.Reads as HostRun
 use Rattle.hoefspanker.proofs.hoefspanker_same_merge.Reads as HostSameMerge
 use Rattle.hoefspanker.proofs.hoefspanker_read_arbitration.Reads as HostReadArbitration
+use Rattle.hoefspanker.proofs.hoefspanker_read_frame.Reads as HostReadFrame
 use Rattle.contracts.specs.Contract.{May}
 
 -- ---- a state
@@ -99,3 +106,28 @@ HostReadArbitrationMay = May HostReadArbitration.Post (λ κs a. (now (a .0), no
 -- printout(message, buf)
 abbrev pub PrintoutMay : List ℕ × List ℕ → ℕ → List ℕ → Type 0
 PrintoutMay = May Printout.Post (λ κs a. (now (a .0), now (a .1 .0))) (λ κs e. now (e .1 .0))
+
+-- ---- a capture
+
+-- read_frame(bytes)
+abbrev pub ReadFrameMay : List ℕ → Frame → Unit {0} → Type 0
+ReadFrameMay = May ReadFrame.Post (λ κs a. now (a .0)) (λ κs e. tt)
+
+-- looks_streamed(message)
+abbrev pub LooksStreamedMay : List ℕ → Bool → Unit {0} → Type 0
+LooksStreamedMay = May LooksStreamed.Post (λ κs a. now (a .0)) (λ κs e. tt)
+
+-- frame_into(capture, at, out)
+abbrev pub FrameIntoMay : List ℕ × ℕ × List ℕ → ℕ → List ℕ → Type 0
+FrameIntoMay = May FrameInto.Post (λ κs a. (now (a .0), a .1 .0, now (a .1 .1 .0))) (λ κs e. now (e .1 .1 .0))
+
+abbrev pub HostReadFrameMay : List ℕ × ℕ × List ℕ → ℕ → List ℕ → Type 0
+HostReadFrameMay = May HostReadFrame.Post (λ κs a. (now (a .0), a .1 .0, now (a .1 .1 .0))) (λ κs e. now (e .1 .1 .0))
+
+-- shown(number, offset, frame, buf)
+abbrev pub ShownMay : ℕ × ℕ × Frame × List ℕ → ℕ → List ℕ → Type 0
+ShownMay = May Shown.Post (λ κs a. (a .0, a .1 .0, a .1 .1 .0, now (a .1 .1 .1 .0))) (λ κs e. now (e .1 .1 .1 .0))
+
+-- ended(number, buf)
+abbrev pub EndedMay : ℕ × List ℕ → ℕ → List ℕ → Type 0
+EndedMay = May Ended.Post (λ κs a. (a .0, now (a .1 .0))) (λ κs e. now (e .1 .0))

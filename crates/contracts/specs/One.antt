@@ -1,7 +1,7 @@
 -- No second answer: of every function that the README offers, of the calls for C, and of the texts that the programs print. Assumes nothing.
 use Rattle.contracts.specs.Contract.{One, one}
-use Rattle.contracts.specs.Calls.{FreshMay, StepMay, OpenStreamsMay, InRangeMay, IndependentMay, RunMay, HostRunMay, TranscriptMay, CompareMay, SameMergeMay, HostSameMergeMay, ReportMay, AnswerMay, ReadMay, ReadIntoMay, HostReadArbitrationMay, PrintoutMay}
-use Rattle.contracts.specs.Only.{only-fresh, only-step, only-open-streams, only-in-range, only-independent, only-run, only-host-run, only-transcript, only-compare, only-same-merge, only-host-same-merge, only-report, only-answer, only-read, only-read-into, only-host-read-arbitration, only-printout}
+use Rattle.contracts.specs.Calls.{FreshMay, StepMay, OpenStreamsMay, InRangeMay, IndependentMay, RunMay, HostRunMay, TranscriptMay, CompareMay, SameMergeMay, HostSameMergeMay, ReportMay, AnswerMay, ReadMay, ReadIntoMay, HostReadArbitrationMay, PrintoutMay, ReadFrameMay, LooksStreamedMay, FrameIntoMay, HostReadFrameMay, ShownMay, EndedMay}
+use Rattle.contracts.specs.Only.{only-fresh, only-step, only-open-streams, only-in-range, only-independent, only-run, only-host-run, only-transcript, only-compare, only-same-merge, only-host-same-merge, only-report, only-answer, only-read, only-read-into, only-host-read-arbitration, only-printout, only-read-frame, only-looks-streamed, only-frame-into, only-host-read-frame, only-shown, only-ended}
 
 pub one-fresh : One FreshMay
 one-fresh = one _ _ _ only-fresh
@@ -53,3 +53,21 @@ one-host-read-arbitration = one _ _ _ only-host-read-arbitration
 
 pub one-printout : One PrintoutMay
 one-printout = one _ _ _ only-printout
+
+pub one-read-frame : One ReadFrameMay
+one-read-frame = one _ _ _ only-read-frame
+
+pub one-looks-streamed : One LooksStreamedMay
+one-looks-streamed = one _ _ _ only-looks-streamed
+
+pub one-frame-into : One FrameIntoMay
+one-frame-into = one _ _ _ only-frame-into
+
+pub one-host-read-frame : One HostReadFrameMay
+one-host-read-frame = one _ _ _ only-host-read-frame
+
+pub one-shown : One ShownMay
+one-shown = one _ _ _ only-shown
+
+pub one-ended : One EndedMay
+one-ended = one _ _ _ only-ended

@@ -19,8 +19,12 @@ use Rattle.wire_arbitration.specs.Update.{reading}
 use Rattle.wire_arbitration.specs.Arbitration.{arbitration}
 use Rattle.wire_bytes.specs.Bytes as Packed
 use Rattle.wire_text.specs.Printout.{printout}
+use Rattle.wire_frames.specs.Frames.{frameAt, looksStreamed}
+use Rattle.wire_frames.specs.declared.Frame.{Frame}
+use Rattle.wire_told.specs.Told.{told}
+use Rattle.wire_shown.specs.Shown.{frameText, endText}
 use Rattle.contracts.specs.Contract.{Gives, Only, only}
-use Rattle.contracts.specs.Calls.{FreshMay, StepMay, OpenStreamsMay, InRangeMay, IndependentMay, RunMay, HostRunMay, TranscriptMay, CompareMay, SameMergeMay, HostSameMergeMay, ReportMay, AnswerMay, ReadMay, ReadIntoMay, HostReadArbitrationMay, PrintoutMay}
+use Rattle.contracts.specs.Calls.{FreshMay, StepMay, OpenStreamsMay, InRangeMay, IndependentMay, RunMay, HostRunMay, TranscriptMay, CompareMay, SameMergeMay, HostSameMergeMay, ReportMay, AnswerMay, ReadMay, ReadIntoMay, HostReadArbitrationMay, PrintoutMay, ReadFrameMay, LooksStreamedMay, FrameIntoMay, HostReadFrameMay, ShownMay, EndedMay}
 
 -- To g, the text t is put at the front of the buffer that is lent, and its length is returned; the bytes behind it stay.
 abbrev pub Puts : {G : Type 0} → (G → ℕ → List ℕ → Type 0) → G → List ℕ → List ℕ → Type 0
@@ -91,3 +95,23 @@ only-host-read-arbitration = only _ _ _ _ _ (λ κs a r e m. m)
 
 pub only-printout : (g : List ℕ × List ℕ) → Puts PrintoutMay g (printout (g .0)) (g .1)
 only-printout = only _ _ _ _ _ (λ κs a r e m. at-front (m .0))
+
+-- ---- a capture
+
+pub only-read-frame : Only ReadFrameMay frameAt (λ g. tt)
+only-read-frame = only _ _ _ _ _ (λ κs a r e m. (m, refl))
+
+pub only-looks-streamed : Only LooksStreamedMay looksStreamed (λ g. tt)
+only-looks-streamed = only _ _ _ _ _ (λ κs a r e m. (m, refl))
+
+pub only-frame-into : Only FrameIntoMay (λ g. told (g .0) (g .1) (g .2) .returned) (λ g. told (g .0) (g .1) (g .2) .out)
+only-frame-into = only _ _ _ _ _ (λ κs a r e m. m)
+
+pub only-host-read-frame : Only HostReadFrameMay (λ g. told (g .0) (g .1) (g .2) .returned) (λ g. told (g .0) (g .1) (g .2) .out)
+only-host-read-frame = only _ _ _ _ _ (λ κs a r e m. m)
+
+pub only-shown : (g : ℕ × ℕ × Frame × List ℕ) → Puts ShownMay g (frameText (g .0) (g .1) (g .2)) (g .3)
+only-shown = only _ _ _ _ _ (λ κs a r e m. at-front (m .0))
+
+pub only-ended : (g : ℕ × List ℕ) → Puts EndedMay g (endText (g .0)) (g .1)
+only-ended = only _ _ _ _ _ (λ κs a r e m. at-front (m .0))

@@ -3,6 +3,7 @@ ghost use mathlib.Core.Path.{_≡_};
 ghost use Rattle.wire_bytes.specs.Bytes.{reported};
 ghost use Rattle.run.specs.Ran.{ran};
 ghost use Rattle.merge_call.specs.Reply.{reply};
+ghost use Rattle.wire_told.specs.Told.{told as toldFrame};
 
 // Runs a list from a fresh state: an answer for each record, the history behind the answers, and the bytes after it stay.
 // Returns 256 plus the number of writes. A refused list returns why, and leaves every byte of the buffer.
@@ -32,4 +33,14 @@ pub extern "C" fn hoefspanker_read_arbitration(message: &[u8], fields: &mut [u8]
         × (now (fields .exit) ≡ reported (now (message .entry)) (now (fields .entry)) .fields) ⌝ }
 {
     wire_bytes::read_into(message, fields)
+}
+
+// Reads the frame at an offset of a captured stream: the fields of its arbitration message and the next offset as 48 bytes at the front of the buffer, and the
+// bytes after them stay. Returns 256 plus the alternative that it carries, or why the frame or the buffer is refused, and then leaves every byte of the buffer.
+#[no_mangle]
+pub extern "C" fn hoefspanker_read_frame(capture: &[u8], offset: usize, frame: &mut [u8]) -> u32
+    ensures { λ r. ⌜ (r ≡ toldFrame (now (capture .entry)) offset (now (frame .entry)) .returned)
+        × (now (frame .exit) ≡ toldFrame (now (capture .entry)) offset (now (frame .entry)) .out) ⌝ }
+{
+    wire_told::frame_into(capture, offset, frame)
 }

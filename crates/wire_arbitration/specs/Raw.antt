@@ -72,3 +72,10 @@ abbrev pub see : Field → Raw → Reading Raw
 see (varint k v) r = whole (withDevice r (seeScalar 1 (varint k v) (r .device)))
 see (fixed k) r = whole r
 see (bytes k held) r = seeBytes k held r
+
+-- A message on top of what an earlier one gave. What is known has no fault.
+abbrev pub known : Raw → Raw
+known r = record { code = 0; device = r .device; role = r .role; id = r .id; election = r .election; high = r .high; low = r .low; status = r .status; error = r .error }
+
+abbrev pub messageOnto : Raw → List ℕ → Reading Raw
+messageOnto r l = message see (known r) l

@@ -18,7 +18,7 @@ use Rattle.wire_fields.specs.Folding.{message-seen}
 use Rattle.wire_fields.specs.declared.Field as Placed
 use Rattle.wire_arbitration.specs.Update as Spec
 use Rattle.wire_arbitration.specs.Seen.{value, seen, refusedRaw, settled, rawOf}
-use Rattle.wire_arbitration.specs.Raw.{seeScalar, lastAt, seeFirst, Two, seeTwo, pairOf, withDevice, withRole, withElection, withStatus, seeBytes, see}
+use Rattle.wire_arbitration.specs.Raw.{seeScalar, lastAt, seeFirst, Two, seeTwo, pairOf, withDevice, withRole, withElection, withStatus, seeBytes, see, messageOnto}
 use Rattle.wire_arbitration.specs.declared.Pair.{Pair}
 use Rattle.wire_arbitration.specs.declared.Raw.{Raw}
 use Rattle.wire_arbitration.specs.Choices.{either-same}
@@ -110,9 +110,13 @@ sees-field (bytes k held) u =
     (embedded-seen Spec.inStatus seeFirst (λ s. value (s .code)) (λ f s. ap whole (value-scalar 1 f (s .code))) u Spec.withStatus withStatus Spec.noStatus (u .status) held (λ s. refl))
     refl))
 
-pub sees-message : (l : List ℕ) → settled (message see (refusedRaw 0) l) ≡ rawOf (Spec.reading l)
+-- On top of what an earlier message gave, and by itself.
+pub sees-onto : (u : Spec.Update) (l : List ℕ) → messageOnto (seen u) l ≡ mapped seen (message Spec.took u l)
+sees-onto u l = sym (message-seen Spec.took see seen sees-field l u)
+
+pub sees-message : (l : List ℕ) → settled (messageOnto (refusedRaw 0) l) ≡ rawOf (Spec.reading l)
 unfolding Spec.reading
-sees-message l = ap settled (sym (message-seen Spec.took see seen sees-field l Spec.nothing))
+sees-message l = ap settled (sees-onto Spec.nothing l)
 
 -- ---- the code stays 0 as long as there is no fault
 

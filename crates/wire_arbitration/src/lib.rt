@@ -7,7 +7,7 @@ ghost use Rattle.wire_fields.specs.Places.{fieldAt, fieldOf};
 ghost use Rattle.wire_arbitration.specs.Arbitration.{low32, arbitration};
 ghost use Rattle.wire_arbitration.specs.Update.{reading};
 ghost use Rattle.wire_arbitration.specs.Seen.{refusedRaw, settled, rawOf};
-ghost use Rattle.wire_arbitration.specs.Raw.{lastAt, seeTwo, pairOf, seeRole, seeElection, seeStatus, seeBytes, see};
+ghost use Rattle.wire_arbitration.specs.Raw.{lastAt, seeTwo, pairOf, seeRole, seeElection, seeStatus, seeBytes, see, messageOnto};
 use wire_fields::Field;
 
 // ---- embedded messages
@@ -192,11 +192,12 @@ fn take(message: &[u8], field: Field, u: Raw) -> Raw
     take_bytes(&message[start..end], field.number, u)
 }
 
-// The whole message, or its first fault from the front.
-pub fn read_raw(message: &[u8]) -> Raw
-    ensures { λ r. ⌜ r ≡ rawOf (reading (now (message .entry))) ⌝ }
+// A message read on top of what an earlier one gave, or its first fault from the front. A code that was there counts as none.
+pub fn read_onto(message: &[u8], before: Raw) -> Raw
+    ensures { λ r. ⌜ r ≡ settled (messageOnto before (now (message .entry))) ⌝ }
 {
-    let mut u = refused(wire_fields::READ);
+    let mut u = before;
+    u.code = wire_fields::READ;
     let mut at = 0;
     while at < message.len() {
         let field = field_at(message, at);
@@ -210,6 +211,14 @@ pub fn read_raw(message: &[u8]) -> Raw
         at = field.next;
     }
     u
+}
+
+// The whole message, or its first fault from the front.
+pub fn read_raw(message: &[u8]) -> Raw
+    ensures { λ r. ⌜ r ≡ rawOf (reading (now (message .entry))) ⌝ }
+{
+    let nothing = refused(wire_fields::READ);
+    read_onto(message, nothing)
 }
 
 // ---- what is reported

@@ -6,7 +6,7 @@ ghost use Rattle.wire_bytes.specs.Bytes.{little, flag, numberBytes, flag
 use wire_arbitration::Raw;
 
 // The low bytes of a number, the least first.
-fn put_little(buf: &mut [u8], at: usize, size: usize, v: u64) -> usize
+pub fn put_little(buf: &mut [u8], at: usize, size: usize, v: u64) -> usize
     requires { ⌜ Room (now buf) at (little size v) ⌝ }
     ensures { λ r. ⌜ Put (now (buf .entry)) at (little size v) (now (buf .exit)) r ⌝ }
 {
@@ -55,7 +55,7 @@ fn put_flags(buf: &mut [u8], at: usize, read: Raw) -> usize
     put_flag(buf, c, false)
 }
 
-fn put_fields(buf: &mut [u8], read: Raw) -> usize
+pub fn put_fields(buf: &mut [u8], read: Raw) -> usize
     requires { ⌜ Room (now buf) 0 (fieldBytes read) ⌝ }
     ensures { λ r. ⌜ Put (now (buf .entry)) 0 (fieldBytes read) (now (buf .exit)) r ⌝ }
 {

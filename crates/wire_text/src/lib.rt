@@ -84,11 +84,11 @@ fn put_status(buf: &mut [u8], at: usize, read: Raw) -> usize
     put_integer_line(buf, next, b"status.code ", read.error)
 }
 
-fn put_fields(buf: &mut [u8], read: Raw) -> usize
-    requires { ⌜ Room (now buf) 0 (fieldLines read) ⌝ }
-    ensures { λ r. ⌜ Put (now (buf .entry)) 0 (fieldLines read) (now (buf .exit)) r ⌝ }
+pub fn put_fields(buf: &mut [u8], at: usize, read: Raw) -> usize
+    requires { ⌜ Room (now buf) at (fieldLines read) ⌝ }
+    ensures { λ r. ⌜ Put (now (buf .entry)) at (fieldLines read) (now (buf .exit)) r ⌝ }
 {
-    let role = put_number_line(buf, 0, b"device_id ", read.device);
+    let role = put_number_line(buf, at, b"device_id ", read.device);
     let election = put_role(buf, role, read);
     let status = put_election(buf, election, read);
     put_status(buf, status, read)
@@ -111,7 +111,7 @@ pub fn printout(message: &[u8], buf: &mut [u8; LONGEST_TEXT]) -> usize
     if message.len() <= LONGEST {
         let read = wire_arbitration::read_raw(message);
         if read.code == wire_fields::READ {
-            return put_fields(buf, read);
+            return put_fields(buf, 0, read);
         }
         return any_text::put_refused_line(buf, 0, read.code as u32);
     }

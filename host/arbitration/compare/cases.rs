@@ -1,7 +1,7 @@
 //! Messages to be compared: all short ones, and drawn ones with what becomes of
 //! them when they are cut or changed.
 
-use calls::Call;
+use calls::{Call, Lending};
 use messages::TELLING;
 use random::Random;
 use reading::FIELDS_BYTES;
@@ -57,5 +57,6 @@ fn lent(random: &mut Random, message: Vec<u8>) -> Call {
         _ => FIELDS_BYTES,
     };
     let (shift, fill) = (random.below(8), random.byte());
-    Call { message, room, nulls: random.percent(50), shift, fill }
+    let nulls = random.percent(50);
+    Call { lending: Lending { input: message, room, nulls, shift, fill } }
 }

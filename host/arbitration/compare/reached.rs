@@ -1,6 +1,6 @@
 //! What the compared messages reached, and what they had to reach.
 
-use calls::Call;
+use calls::{Call, Lending};
 use reading::wire::Refusal;
 use reading::{read, Arbitration, FIELDS_BYTES, NO_ROOM};
 use trial::{marks, Counts};
@@ -60,19 +60,20 @@ pub fn nothing() -> Counts {
 
 /// Counts what a call reached for which the reading returned `result`.
 pub fn watch(reached: &mut Counts, call: &Call, result: u32) {
-    let room = call.room;
-    reached.mark(Mark::MessageNull, call.nulls && call.message.is_empty());
-    reached.mark(Mark::FieldsNull, call.nulls && room == 0);
+    let Lending { input: message, room, nulls, .. } = &call.lending;
+    let (room, nulls) = (*room, *nulls);
+    reached.mark(Mark::MessageNull, nulls && message.is_empty());
+    reached.mark(Mark::FieldsNull, nulls && room == 0);
     reached.mark(Mark::RoomExact, result == 0 && room == FIELDS_BYTES);
     reached.mark(Mark::RoomMore, result == 0 && room > FIELDS_BYTES);
     reached.mark(Mark::RoomOneShort, result == NO_ROOM && room + 1 == FIELDS_BYTES);
     reached.mark(Mark::RoomFarShort, result == NO_ROOM && room + 1 < FIELDS_BYTES);
-    match first(&call.message) {
+    match first(message) {
         Some(fault) => {
             reached.mark(Mark::FaultNoRoom, room < FIELDS_BYTES);
             watch_fault(reached, &fault);
         }
-        None => watch_good(reached, read(&call.message).unwrap_or_default()),
+        None => watch_good(reached, read(message).unwrap_or_default()),
     }
 }
 

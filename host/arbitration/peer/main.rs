@@ -11,11 +11,11 @@ mod protoc;
 
 use std::process::{Command, ExitCode};
 
-use calls::Call;
+use calls::{Call, Compared};
 use cases::Case;
-use messages::Written;
+use messages::{framed, Written};
 use random::Random;
-use reading::{Arbitration, FIELDS_BYTES, MOST_INPUT, READ};
+use reading::{Arbitration, CARRYING, FIELDS_BYTES, MOST_INPUT, READ, TOLD_BYTES};
 
 /// Messages that protoc reads.
 const DECODED: usize = 3_000;
@@ -41,6 +41,8 @@ fn compare(program: &str) -> Result<(), String> {
     println!("{} changes of them compared", changed?.iter().sum::<usize>());
     decoded()?;
     println!("{DECODED} drawn messages read by protoc and the library");
+    decoded_responses()?;
+    println!("{DECODED} drawn stream messages read by protoc and the library");
     Ok(())
 }
 
@@ -67,7 +69,7 @@ fn program_prints(program: &str, case: &Case) -> Result<(), String> {
 }
 
 fn prints(program: &str, input: &[u8], expected: &str) -> Result<(), String> {
-    let printed = protoc::printed(&mut Command::new(program), input)?;
+    let printed = trial::printed(&mut Command::new(program), input)?;
     if printed == expected.as_bytes() {
         return Ok(());
     }
@@ -107,16 +109,42 @@ fn changes(case: &Case) -> Result<usize, String> {
 fn decoded() -> Result<(), String> {
     let mut random = Random::from_seed(1);
     let drawn: Vec<Vec<u8>> = (0..DECODED).map(|_| messages::portable(&mut random)).collect();
-    let add = |updates: Written, message: &Vec<u8>| updates.bytes(1, message);
-    let updates = drawn.iter().fold(Written::new(), add);
-    let text = protoc::decode("arbitration", "Updates", &updates.bytes)?;
-    let answers = answer::updates(&text)?;
-    if answers.len() != DECODED {
-        return Err(format!("protoc read {} of {DECODED} messages", answers.len()));
-    }
-    for (message, answer) in drawn.iter().zip(answers) {
+    let text = protoc::decode("arbitration", "Updates", &all_of(&drawn))?;
+    for (message, answer) in drawn.iter().zip(counted(answer::updates(&text)?)?) {
         let named = |error| format!("{}{error}", trial::hex(message));
         call_reads(message, Ok(answer)).map_err(named)?;
     }
     Ok(())
+}
+
+/// The same of stream messages, each in a frame.
+fn decoded_responses() -> Result<(), String> {
+    let mut random = Random::from_seed(2);
+    let drawn: Vec<Vec<u8>> =
+        (0..DECODED).map(|_| messages::portable_stream(&mut random)).collect();
+    let text = protoc::decode("stream", "Responses", &all_of(&drawn))?;
+    for (message, carried) in drawn.iter().zip(counted(answer::responses(&text)?)?) {
+        let mut told = [0xA5; TOLD_BYTES];
+        let returned = library::read_frame(&framed(message), 0, &mut told);
+        let wanted = (CARRYING + carried.kind() as u32, carried.fields().to_bytes());
+        if (returned, &told[..FIELDS_BYTES]) != (wanted.0, &wanted.1) {
+            let hex = trial::hex(message);
+            return Err(format!("{hex}expected {carried:?}\nthe library has {returned} {told:?}"));
+        }
+    }
+    Ok(())
+}
+
+/// Messages as field 1 of one message.
+fn all_of(drawn: &[Vec<u8>]) -> Vec<u8> {
+    drawn.iter().fold(Written::new(), |all, message| all.bytes(1, message)).bytes
+}
+
+/// As many answers as messages.
+fn counted<T>(answers: Vec<T>) -> Result<Vec<T>, String> {
+    if answers.len() == DECODED {
+        Ok(answers)
+    } else {
+        Err(format!("protoc read {} of {DECODED} messages", answers.len()))
+    }
 }

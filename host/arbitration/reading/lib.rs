@@ -1,16 +1,22 @@
 //! Reads a MasterArbitrationUpdate of p4runtime.proto 1.0.0 as it goes over the
 //! wire. Written from protobuf's published encoding and the request alone,
 //! without a look at the verified library, which is compared with it and
-//! measured against it.
+//! measured against it. The frames that carry such messages came later, and are
+//! written from gRPC's framing and p4runtime.proto.
 
+mod frames;
 mod merge;
 #[cfg(test)]
 mod tests;
 mod text;
 pub mod wire;
 
+pub use frames::{
+    frame_into, held, looks_streamed, read_frame, read_message, Carried, Frame, CARRYING,
+    FRAME_COMPRESSED, FRAME_CUT_SHORT, HEAD_BYTES, TOLD_BYTES,
+};
 pub use merge::{Arbitration, ElectionId, Role, Status};
-pub use text::{text, text_of, MOST_INPUT};
+pub use text::{captured_text, text, text_of, LOOKS_STREAMED, MOST_INPUT};
 use wire::Refusal;
 
 use merge::Merge;

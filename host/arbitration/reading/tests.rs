@@ -251,3 +251,109 @@ fn lines() {
     assert_eq!(text_of(&[0x0B; MOST_INPUT]), "refused 15\n");
     assert_eq!(text_of(&[0x0B; MOST_INPUT + 1]), "refused 8\n");
 }
+
+const REQUEST: [u8; 15] = [0, 0, 0, 0, 10, 0x0A, 8, 0x08, 7, 0x1A, 4, 0x08, 1, 0x10, 2];
+
+#[test]
+fn frames() {
+    let election_id = Some(ElectionId { high: 1, low: 2 });
+    let carried = Carried::Arbitration(Arbitration { device_id: 7, election_id, ..NOTHING });
+    assert_eq!(read_frame(&REQUEST, 0), Ok(Frame { carried, next: 15 }));
+    let two = [&REQUEST[..], &[0, 0, 0, 0, 0]].concat();
+    assert_eq!(read_frame(&two, 15), Ok(Frame { carried: Carried::Nothing, next: 20 }));
+    for end in 0..15 {
+        assert_eq!(read_frame(&REQUEST[..end], 0), Err(FRAME_CUT_SHORT));
+    }
+    for offset in [15, 16, usize::MAX] {
+        assert_eq!(read_frame(&REQUEST, offset), Err(FRAME_CUT_SHORT));
+    }
+    assert_eq!(read_frame(&[1], 0), Err(FRAME_COMPRESSED));
+    assert_eq!(read_frame(&[255, 0, 0, 0, 0], 0), Err(FRAME_COMPRESSED));
+    assert_eq!(read_frame(&[0, 0, 0, 0, 1, 0x80], 0), Err(13));
+    // The greatest byte of the length first.
+    let long = [&[0, 0, 0, 1, 0][..], &[0; 256]].concat();
+    assert_eq!(held(&long, 0).map(<[u8]>::len), Ok(256));
+    assert_eq!(held(&long[..260], 0), Err(FRAME_CUT_SHORT));
+}
+
+#[test]
+fn alternatives() {
+    let device = |device_id| Carried::Arbitration(Arbitration { device_id, ..NOTHING });
+    let role = |device_id| {
+        Carried::Arbitration(Arbitration { device_id, role: Some(Role::default()), ..NOTHING })
+    };
+    let cases: [(&[u8], Carried); 12] = [
+        (&[], Carried::Nothing),
+        (&[0x0A, 0], device(0)),
+        (&[0x0A, 2, 0x08, 7], device(7)),
+        (&[0x12, 0], Carried::Other(2)),
+        (&[0x1A, 1, 0xFF], Carried::Other(3)),
+        (&[0x22, 0], Carried::Other(4)),
+        (&[0x2A, 0], Carried::Other(5)),
+        // Not an alternative: field 6, and field 1 of another wire type.
+        (&[0x32, 0], Carried::Nothing),
+        (&[0x08, 1, 0x10, 1], Carried::Nothing),
+        // Twice in a row is merged; what stands between sets it aside.
+        (&[0x0A, 2, 0x08, 7, 0x0A, 2, 0x12, 0], role(7)),
+        (&[0x0A, 2, 0x08, 7, 0x12, 0, 0x0A, 2, 0x12, 0], role(0)),
+        (&[0x0A, 2, 0x08, 7, 0x30, 1, 0x0A, 2, 0x12, 0], role(7)),
+    ];
+    for (message, carried) in cases {
+        assert_eq!(read_message(message), Ok(carried));
+    }
+    // A fault counts also where what it stands in is set aside later.
+    assert_eq!(read_message(&[0x0A, 1, 0x08, 0x12, 0]), Err(Refusal::CutShort));
+    // What other alternatives hold is not looked into.
+    assert_eq!(read_message(&[0x12, 1, 0x0B]), Ok(Carried::Other(2)));
+}
+
+#[test]
+fn told() {
+    let mut told = [0xA5; 49];
+    assert_eq!(frame_into(&REQUEST, 0, &mut told), 257);
+    assert_eq!((told[0], told[16], told[24], told[37], told[40], told[48]), (7, 1, 2, 1, 15, 0xA5));
+    let mut told = [0xA5; 47];
+    assert_eq!(frame_into(&REQUEST, 0, &mut told), NO_ROOM);
+    assert_eq!(frame_into(&REQUEST, 1, &mut told), FRAME_CUT_SHORT);
+    assert_eq!(told, [0xA5; 47]);
+    let mut told = [0xA5; 48];
+    assert_eq!(frame_into(&[0, 0, 0, 0, 2, 0x12, 0], 0, &mut told), 258);
+    assert_eq!(told[..40], [0; 40]);
+}
+
+#[test]
+fn captured_lines() {
+    let packet = [0, 0, 0, 0, 2, 0x12, 0];
+    let digest = [0, 0, 0, 0, 2, 0x1A, 0];
+    let nothing = [0; 5];
+    let fields = text(&read_frame(&REQUEST, 0).unwrap().carried.fields());
+    let all = [&REQUEST[..], &packet, &digest, &nothing].concat();
+    let expected = format!("1 arbitration\n{fields}2 packet\n3 field 3\n4 nothing\n");
+    assert_eq!(captured_text(&all), expected.clone() + "frames 4\n");
+    assert_eq!(
+        captured_text(&all[..33]),
+        expected[..expected.len() - 10].to_string() + "refused frame 4 29 21\n"
+    );
+    assert_eq!(captured_text(&[]), "frames 0\n");
+    assert_eq!(captured_text(&[0, 0, 1, 0, 0]), "refused frame 1 0 21\n");
+    assert_eq!(captured_text(&[0, 0, 1, 0, 1]), "refused frame 1 0 8\n");
+    assert_eq!(captured_text(&[1, 0, 1, 0, 1]), "refused frame 1 0 22\n");
+}
+
+#[test]
+fn looks_like_a_stream_message() {
+    for (message, looks) in [
+        (&REQUEST[..], true),
+        (&REQUEST[..14], false),
+        (&REQUEST[5..], true),
+        (&REQUEST[7..], false),
+        (&[], false),
+        (&[0; 5], true),
+        (&[0x0A, 1, 0x80], false),
+        (&[0x0A, 0, 0x08, 1], false),
+        (&[0x0A, 0, 0x12, 0], false),
+        (&[0x12, 0, 0x0A, 0], false),
+    ] {
+        assert_eq!(looks_streamed(message), looks, "{message:?}");
+    }
+}

@@ -1,5 +1,6 @@
 //! What the program prints for a message.
 
+use crate::frames::{held, read_frame, Carried, HEAD_BYTES};
 use crate::merge::Arbitration;
 
 /// The longest input that the program reads as a message.
@@ -45,5 +46,45 @@ fn presence(present: bool) -> &'static str {
         "present"
     } else {
         "absent"
+    }
+}
+
+/// What `arbitration` says on standard error of what looks like a stream message.
+pub const LOOKS_STREAMED: &str =
+    "arbitration: this looks like a stream message; captured reads those\n";
+
+/// What the program `captured` prints for its input: a text for each frame and a
+/// line at the end, which is how many they are or the first refusal.
+pub fn captured_text(input: &[u8]) -> String {
+    let mut text = String::new();
+    let mut number = 0;
+    let mut offset = 0;
+    while offset < input.len() {
+        number += 1;
+        match bounded(input, offset) {
+            Ok(carried) => text += &format!("{number} {}", carried_text(carried)),
+            Err(refusal) => return text + &format!("refused frame {number} {offset} {refusal}\n"),
+        }
+        offset += HEAD_BYTES + held(input, offset).map_or(0, <[u8]>::len);
+    }
+    text + &format!("frames {number}\n")
+}
+
+/// The frame at an offset, if it is not too long for the program.
+fn bounded(input: &[u8], offset: usize) -> Result<Carried, u32> {
+    match input[offset..] {
+        [0, a, b, c, d, ..] if u32::from_be_bytes([a, b, c, d]) as usize > MOST_INPUT => {
+            Err(TOO_LONG)
+        }
+        _ => Ok(read_frame(input, offset)?.carried),
+    }
+}
+
+fn carried_text(carried: Carried) -> String {
+    match carried {
+        Carried::Nothing => "nothing\n".to_string(),
+        Carried::Arbitration(arbitration) => format!("arbitration\n{}", text(&arbitration)),
+        Carried::Other(2) => "packet\n".to_string(),
+        Carried::Other(field) => format!("field {field}\n"),
     }
 }

@@ -1,8 +1,8 @@
--- `main` is safe: what was read, and the text, lie within their buffers. Assumes nothing.
+-- `main` is safe: what is read and the text lie within their buffers. Assumes nothing.
 use mathlib.Core.Path.{sym}
 use lib.Seq.{length-take-le}
-use Rattle.files.specs.Within.{counted}
 use borrow.Author.Needs.{needs}
+use Rattle.files.specs.Within.{counted}
 use Rattle.arbitration.proofs.main.Statement.{statement}
 use Rattle.arbitration.proofs.main.Tie as tie
 
@@ -22,12 +22,10 @@ returns : tie.Need-returns
 returns c = search needs
 
 array-share-prefix-message : tie.Need-array-share-prefix-message
-array-share-prefix-message c =
-    counted _ _ _ (c .before .before .before .before .read-input .ensures) (c .before .n .given .1) .0
+array-share-prefix-message c = counted _ _ _ (c .before .before .before .before .read-input .ensures) (c .before .n .given .1) .0
 
 slice-aggregate-printout : tie.Need-slice-aggregate-printout
-slice-aggregate-printout c =
-    counted _ _ _ (c .before .before .before .before .before .read-input .ensures) (c .before .before .n .given .1) .1
+slice-aggregate-printout c = counted _ _ _ (c .before .before .before .before .before .read-input .ensures) (c .before .before .n .given .1) .1
 
 printout-requires : tie.Need-printout-requires
 printout-requires c κs = search needs
@@ -41,8 +39,26 @@ slice-aggregate-print c = sym (length-take-le _ _ (c .before .printout .ensures 
 print-requires : tie.Need-print-requires
 print-requires c κs = search needs
 
+array-share-prefix-message-2 : tie.Need-array-share-prefix-message-2
+array-share-prefix-message-2 c = counted _ _ _ (c .before .before .before .before .before .before .before .before .before .read-input .ensures) (c .before .before .before .before .before .before .n .given .1) .0
+
+slice-aggregate-looks-streamed : tie.Need-slice-aggregate-looks-streamed
+slice-aggregate-looks-streamed c = counted _ _ _ (c .before .before .before .before .before .before .before .before .before .before .read-input .ensures) (c .before .before .before .before .before .before .before .n .given .1) .1
+
+looks-streamed-requires : tie.Need-looks-streamed-requires
+looks-streamed-requires c κs = search needs
+
+slice-aggregate-write-all : tie.Need-slice-aggregate-write-all
+slice-aggregate-write-all c = search needs
+
+write-all-requires : tie.Need-write-all-requires
+write-all-requires c κs = search needs
+
 returns-2 : tie.Need-returns-2
 returns-2 c = search needs
+
+returns-3 : tie.Need-returns-3
+returns-3 c = search needs
 
 pub main-spec : {M : Type 1} → statement M
 main-spec =
@@ -59,4 +75,10 @@ main-spec =
     array-share-prefix-text
     slice-aggregate-print
     print-requires
-    returns-2)
+    array-share-prefix-message-2
+    slice-aggregate-looks-streamed
+    looks-streamed-requires
+    slice-aggregate-write-all
+    write-all-requires
+    returns-2
+    returns-3)

@@ -1,91 +1,21 @@
 -- `read_raw` meets its contract. Assumes nothing.
-use mathlib.Core.Path.{_≡_, sym, ap, _∙_}
-use Prim.Native.Nat.{_-_}
-use native.Mathlib.Omega.{arith}
-use lib.ListN.{length}
+use mathlib.Core.Path.{_≡_, ap, _∙_}
 use borrow.Author.Needs.{needs}
-use Rattle.wire_fields.specs.Messages.{message}
-use Rattle.wire_fields.specs.Places.{fieldOf}
-use Rattle.wire_fields.specs.Found.{found-field, no-field}
-use Rattle.wire_fields.specs.Walking.{Walking, walking-starts, walking-ends, walking-faults, walking-on, walking-breaks}
-use Rattle.wire_arbitration.specs.Seen.{refusedRaw, settled}
-use Rattle.wire_arbitration.specs.Raw.{see}
-use Rattle.wire_arbitration.specs.Seeing.{sees-message, sees-whole, sees-broken}
+use Rattle.wire_arbitration.specs.Seen.{settled}
+use Rattle.wire_arbitration.specs.Raw.{messageOnto}
+use Rattle.wire_arbitration.specs.Seeing.{sees-message}
 use Rattle.wire_arbitration.specs.declared.Raw.{Raw}
 use Rattle.wire_arbitration.proofs.read_raw.Statement.{statement}
 use Rattle.wire_arbitration.proofs.read_raw.Tie as tie
 
-abbrev Inv-loop : tie.InvT-loop
-Inv-loop message u₀ at₀ u at = Walking see message (refusedRaw 0) u at × (u .code ≡ 0)
-
-abbrev μ-loop : tie.MeasureT-loop
-μ-loop message u₀ at₀ u at = length message - at
-
-refused-requires : tie.Need-refused-requires Inv-loop μ-loop
+refused-requires : tie.Need-refused-requires
 refused-requires c κs = search needs
 
-loop-holds : tie.Need-loop-holds Inv-loop μ-loop
-loop-holds c = (rw (c .refused .ensures) (walking-starts _ _ _), ap (λ (r : Raw). r .code) (c .refused .ensures))
+read-onto-requires : tie.Need-read-onto-requires
+read-onto-requires c κs = search needs
 
-field-at-requires : tie.Need-field-at-requires Inv-loop μ-loop
-field-at-requires c κs = search needs
-
-refused-requires-2 : tie.Need-refused-requires-2 Inv-loop μ-loop
-refused-requires-2 c κs = search needs
-
-returns : tie.Need-returns Inv-loop μ-loop
-returns c =
-    let at-loop = c .before .before .before .before .before in
-    let r = c .before .before .before .field-at in
-    let lost = no-field _ _ _ (r .ensures) (c .before .if1 .taken) in
-    c .refused2 .ensures ∙ ap refusedRaw (sym (lost .code)) ∙ ap settled (sym (walking-faults _ _ _ (at-loop .loop .inv .0) (omega arith) (r .result) lost)) ∙ sees-message _
-
-take-requires : tie.Need-take-requires Inv-loop μ-loop
-take-requires c κs =
-    let at-loop = c .before .before .before .before in
-    let r = c .before .before .field-at in
-    let found = found-field _ _ _ (r .ensures) (omega arith) in
-    (found .ordered, found .inside)
-
-returns-2 : tie.Need-returns-2 Inv-loop μ-loop
-returns-2 c =
-    let at-loop = c .before .before .before .before .before .before .before in
-    let r = c .before .before .before .before .before .field-at in
-    let found = found-field _ _ _ (r .ensures) (omega arith) in
-    let lost = sees-broken (fieldOf _ (r .result)) (at-loop .loop .u) _ (at-loop .loop .inv .1) (c .before .before .take .ensures) (c .if2 .taken) in
-    lost .2 ∙ ap settled (sym (walking-breaks _ _ _ (at-loop .loop .inv .0) (omega arith) (r .result) found (lost .0) (lost .1))) ∙ sees-message _
-
-loop-less : tie.Need-loop-less Inv-loop μ-loop
-loop-less c =
-    let at-loop = c .before .before .before .before .before .before .before in
-    let r = c .before .before .before .before .before .field-at in
-    let found = found-field _ _ _ (r .ensures) (omega arith) in
-    omega arith
-
-loop-again : tie.Need-loop-again Inv-loop μ-loop
-loop-again c =
-    let at-loop = c .before .before .before .before .before .before .before in
-    let r = c .before .before .before .before .before .field-at in
-    let found = found-field _ _ _ (r .ensures) (omega arith) in
-    let good : c .before .before .take .result .code ≡ 0 = omega arith in
-    (walking-on _ _ _ (at-loop .loop .inv .0) (omega arith) (r .result) found _ (sees-whole (fieldOf _ (r .result)) (at-loop .loop .u) _ (at-loop .loop .inv .1) (c .before .before .take .ensures) good), good)
-
-returns-3 : tie.Need-returns-3 Inv-loop μ-loop
-returns-3 c = ap settled (sym (walking-ends _ _ _ (c .before .loop .inv .0) (omega arith))) ∙ sees-message _
+returns : tie.Need-returns
+returns c = c .read-onto .ensures ∙ ap (λ (r : Raw). settled (messageOnto r (c .before .before .before .args .message .now))) (c .before .refused .ensures) ∙ sees-message _
 
 pub read-raw-spec : {M : Type 1} → statement M
-read-raw-spec =
-    tie.close
-    (tie.spec
-    Inv-loop
-    μ-loop
-    refused-requires
-    loop-holds
-    field-at-requires
-    refused-requires-2
-    returns
-    take-requires
-    returns-2
-    loop-less
-    loop-again
-    returns-3)
+read-raw-spec = tie.close (tie.spec refused-requires read-onto-requires returns)

@@ -1,0 +1,4 @@
+-- Believed: Shown.
+-- Laws: Showing.
+pub mod Shown
+pub mod Showing

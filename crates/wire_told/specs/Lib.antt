@@ -1,0 +1,4 @@
+-- Believed: Told.
+-- Laws: Telling.
+pub mod Told
+pub mod Telling
