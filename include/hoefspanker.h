@@ -59,7 +59,7 @@
 #define HOEFSPANKER_HISTORY_FULL 6   /* an accepted write would be the 1,025th */
 #define HOEFSPANKER_QUEUE_FULL 7     /* a queue to be appended to holds 8 */
 
-/* Refusals of a whole list. Where several apply, the lowest is returned. */
+/* Refusals of a whole list. If several apply, the lowest is returned. */
 #define HOEFSPANKER_BAD_LENGTH 8       /* shorter than 12 bytes or longer than 65,536 */
 #define HOEFSPANKER_BAD_MARK 9         /* last two bytes not 4D 41, or the zero byte not 0 */
 #define HOEFSPANKER_BAD_NODE_COUNT 10  /* node count not 1 to 8 */
@@ -114,7 +114,7 @@
  * flag, a length of 4 bytes with the greatest first, and as many bytes, which
  * are a StreamMessageRequest or StreamMessageResponse of p4runtime.proto 1.0.0.
  * Of a frame the fields of its arbitration message are put, as above, and all 0
- * if it carries none; and behind them where the next frame begins. */
+ * if it carries none; and after them where the next frame begins. */
 #define HOEFSPANKER_FRAME_BYTES 48
 #define HOEFSPANKER_NEXT_OFFSET_AT 40        /* 8 bytes */
 
@@ -138,18 +138,19 @@ extern "C" {
 /* Runs the `list_len` bytes at `list` and writes to the `out_len` bytes at
  * `out`.
  *
- * The caller owes: `list` may be read for `list_len` bytes and `out` read and
- * written for `out_len` bytes; the two do not overlap; a pointer is NULL only
- * if its length is 0. Nothing else is asked of the bytes: a damaged list is
- * refused.
+ * Requires: `list` may be read for `list_len` bytes, and `out` read and written
+ * for `out_len` bytes. The two do not overlap. A pointer is NULL only if its
+ * length is 0. The bytes may be anything: a damaged list is refused.
  *
- * The caller gets, for a list that is run: HOEFSPANKER_RAN plus the number W of
- * accepted writes, 0 to 1,024. With C records, the first C bytes of `out` are
- * the answers in the order of the records, the next 4 * W bytes are the
- * history, oldest write first, and the bytes after that stay as they were.
+ * Returns, if the list is run: HOEFSPANKER_RAN plus the number W of accepted
+ * writes, 0 to 1,024. With C records, the first C bytes of `out` are the answers
+ * in the order of the records, the next 4 * W bytes are the history, oldest
+ * write first, and the bytes after that stay as they were.
  *
- * For a list that is refused: one of the five refusals above, and `out` stays
- * as it was. The bytes of `list` are never changed. */
+ * Returns, if it is refused: one of the five refusals above, and `out` stays as
+ * it was. The bytes of `list` are never changed.
+ *
+ * The call takes about 20 KB of stack. */
 uint32_t hoefspanker_run(const uint8_t *list, size_t list_len,
                          uint8_t *out, size_t out_len);
 
@@ -158,36 +159,39 @@ uint32_t hoefspanker_run(const uint8_t *list, size_t list_len,
  * `fields`. Unknown fields, and known ones of another wire type, are skipped;
  * the last of a repeated scalar wins; an embedded message given twice is merged.
  *
- * The caller owes the same as above, of `message` and `fields`. A message may
- * have any length.
+ * Requires: the same as above, of `message` and `fields`. A message may have any
+ * length.
  *
- * The caller gets HOEFSPANKER_READ, the fields in the first 40 bytes of
- * `fields`, and the bytes after them as they were. For a message or a buffer
- * that is refused: the refusal, and `fields` stays as it was. A message that
- * cannot be read is refused before a buffer that is too short. The bytes of
- * `message` are never changed. */
+ * Returns, if the message can be read: HOEFSPANKER_READ, with the fields in the
+ * first 40 bytes of `fields`; the bytes after them stay as they were.
+ *
+ * Returns, if the message or the buffer is refused: the refusal, and `fields`
+ * stays as it was. A message that cannot be read is refused before a buffer that
+ * is too short. The bytes of `message` are never changed.
+ *
+ * The call takes less than 1 KB of stack. */
 uint32_t hoefspanker_read_arbitration(const uint8_t *message, size_t message_len,
                                       uint8_t *fields, size_t fields_len);
 
 /* Reads the frame that begins `offset` bytes into the `capture_len` bytes at
  * `capture`, and puts what it says into the `frame_len` bytes at `frame`.
  *
- * The caller owes the same as above, of `capture` and `frame`. A capture may have
- * any length and an offset any value.
+ * Requires: the same as above, of `capture` and `frame`. A capture may have any
+ * length and an offset any value.
  *
- * The caller gets HOEFSPANKER_CARRIES plus the field number of the alternative
- * that the message carries, 0 to 5; the fields and the next offset in the first
- * 48 bytes of `frame`; and the bytes after them as they were. An arbitration
- * message given twice in a row is merged, and another alternative in between sets
- * it aside. What other alternatives hold is not looked into.
+ * Returns, if the frame can be read: HOEFSPANKER_CARRIES plus the field number of
+ * the alternative that the message carries, 0 to 5, with the fields and the next
+ * offset in the first 48 bytes of `frame`; the bytes after them stay as they
+ * were. An arbitration message given twice in a row is merged, and another
+ * alternative in between sets it aside. Other alternatives are not looked into.
  *
- * For a frame or a buffer that is refused: the refusal, and `frame` stays as it
- * was. The flag is judged first, then the length, then the message, then the
- * buffer. At the end of the capture and behind it the refusal is
+ * Returns, if the frame or the buffer is refused: the refusal, and `frame` stays
+ * as it was. The flag is judged first, then the length, then the message, then
+ * the buffer. At the end of the capture and after it the refusal is
  * HOEFSPANKER_FRAME_CUT_SHORT. The bytes of `capture` are never changed.
  *
- * A capture is walked from offset 0, each time to the next offset, as long as the
- * offset is below `capture_len`. Where a part of a capture is at hand,
+ * Walk a capture from offset 0, each time to the next offset, as long as the
+ * offset is below `capture_len`. If only a part of the capture is at hand,
  * HOEFSPANKER_FRAME_CUT_SHORT asks for more of it. */
 uint32_t hoefspanker_read_frame(const uint8_t *capture, size_t capture_len,
                                 size_t offset, uint8_t *frame, size_t frame_len);
@@ -196,13 +200,13 @@ uint32_t hoefspanker_read_frame(const uint8_t *capture, size_t capture_len,
  * independent records lead from the one to the other? Then both accept the same
  * writes and every record has the same answer in both.
  *
- * The caller owes the same of each pointer and length as above; `places` does
- * not overlap the lists, which may overlap each other.
+ * Requires: the same as above, of each pointer and length. `places` does not
+ * overlap the lists, which may overlap each other.
  *
- * Where a verdict is given, one of the four above is returned, and the first 8
- * bytes of `places` are four places P, Q, R, S, two bytes each with the least
- * byte first; places count records from 1, and 0 is no place. The bytes after
- * them stay as they were.
+ * Returns, if both lists can be compared: one of the four verdicts above. The
+ * first 8 bytes of `places` are four places P, Q, R, S, two bytes each with the
+ * least byte first; places count records from 1, and 0 is no place. The bytes
+ * after them stay as they were.
  *   HOEFSPANKER_SAME         0 0 0 0
  *   HOEFSPANKER_ORDER        records P and Q of the first list, P before Q, depend
  *                            on one another and stand at R and S in the second,
@@ -210,9 +214,9 @@ uint32_t hoefspanker_read_frame(const uint8_t *capture, size_t capture_len,
  *   HOEFSPANKER_ONLY_FIRST   P 0 0 0: the second list lacks record P of the first
  *   HOEFSPANKER_ONLY_SECOND  0 0 0 S: the first list lacks record S of the second
  *
- * Otherwise a refusal is returned and `places` stays as it was: the first
- * list's 8 to 11; 12 where `places_len` is below 8; the second list's, 24 to 27;
- * 28 where the node counts differ. Of several the lowest.
+ * Returns, if they are refused: the first list's 8 to 11; 12 if `places_len` is
+ * below 8; the second list's, 24 to 27; 28 if the node counts differ. If several
+ * apply, the lowest is returned. `places` stays as it was.
  *
  * The call takes about 135 KB of stack. */
 uint32_t hoefspanker_same_merge(const uint8_t *first, size_t first_len,

@@ -44,8 +44,8 @@ fn read_next(space: &mut [u8]) -> Next
 // Prints the text of a frame, and answers whether to go on: not behind a refusal, and not where the text could not be written, of which it says why on
 // standard error.
 fn printed(number: u64, offset: u64, frame: Frame) -> bool {
-    let mut text = [0u8; wire_shown::LONGEST_TEXT];
-    let length = wire_shown::shown(number, offset, frame, &mut text);
+    let mut text = [0u8; wire_frames_text::LONGEST_TEXT];
+    let length = wire_frames_text::shown(number, offset, frame, &mut text);
     if io::write_all(STDOUT_FILENO, &text[..length]) {
         return frame.code == wire_fields::READ;
     }
@@ -54,8 +54,8 @@ fn printed(number: u64, offset: u64, frame: Frame) -> bool {
 }
 
 fn print_end(number: u64) {
-    let mut text = [0u8; wire_shown::LONGEST_TEXT];
-    let length = wire_shown::ended(number, &mut text);
+    let mut text = [0u8; wire_frames_text::LONGEST_TEXT];
+    let length = wire_frames_text::ended(number, &mut text);
     files::print(&text[..length]);
 }
 

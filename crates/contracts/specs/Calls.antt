@@ -25,9 +25,9 @@ use Rattle.wire_bytes.proofs.read_into.Reads as ReadInto
 use Rattle.wire_text.proofs.printout.Reads as Printout
 use Rattle.wire_frames.proofs.read_frame.Reads as ReadFrame
 use Rattle.wire_frames.proofs.looks_streamed.Reads as LooksStreamed
-use Rattle.wire_told.proofs.frame_into.Reads as FrameInto
-use Rattle.wire_shown.proofs.shown.Reads as Shown
-use Rattle.wire_shown.proofs.ended.Reads as Ended
+use Rattle.wire_frames_bytes.proofs.frame_into.Reads as FrameInto
+use Rattle.wire_frames_text.proofs.shown.Reads as Shown
+use Rattle.wire_frames_text.proofs.ended.Reads as Ended
 use Rattle.hoefspanker.proofs.hoefspanker_run.Reads as HostRun
 use Rattle.hoefspanker.proofs.hoefspanker_same_merge.Reads as HostSameMerge
 use Rattle.hoefspanker.proofs.hoefspanker_read_arbitration.Reads as HostReadArbitration

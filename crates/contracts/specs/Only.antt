@@ -21,8 +21,8 @@ use Rattle.wire_bytes.specs.Bytes as Packed
 use Rattle.wire_text.specs.Printout.{printout}
 use Rattle.wire_frames.specs.Frames.{frameAt, looksStreamed}
 use Rattle.wire_frames.specs.declared.Frame.{Frame}
-use Rattle.wire_told.specs.Told.{told}
-use Rattle.wire_shown.specs.Shown.{frameText, endText}
+use Rattle.wire_frames_bytes.specs.Told.{told}
+use Rattle.wire_frames_text.specs.Shown.{frameText, endText}
 use Rattle.contracts.specs.Contract.{Gives, Only, only}
 use Rattle.contracts.specs.Calls.{FreshMay, StepMay, OpenStreamsMay, InRangeMay, IndependentMay, RunMay, HostRunMay, TranscriptMay, CompareMay, SameMergeMay, HostSameMergeMay, ReportMay, AnswerMay, ReadMay, ReadIntoMay, HostReadArbitrationMay, PrintoutMay, ReadFrameMay, LooksStreamedMay, FrameIntoMay, HostReadFrameMay, ShownMay, EndedMay}
 

@@ -3,7 +3,7 @@ ghost use mathlib.Core.Path.{_≡_};
 ghost use Rattle.wire_bytes.specs.Bytes.{reported};
 ghost use Rattle.run.specs.Ran.{ran};
 ghost use Rattle.merge_call.specs.Reply.{reply};
-ghost use Rattle.wire_told.specs.Told.{told as toldFrame};
+ghost use Rattle.wire_frames_bytes.specs.Told.{told as toldFrame};
 
 // Runs a list from a fresh state: an answer for each record, the history behind the answers, and the bytes after it stay.
 // Returns 256 plus the number of writes. A refused list returns why, and leaves every byte of the buffer.
@@ -42,5 +42,5 @@ pub extern "C" fn hoefspanker_read_frame(capture: &[u8], offset: usize, frame: &
     ensures { λ r. ⌜ (r ≡ toldFrame (now (capture .entry)) offset (now (frame .entry)) .returned)
         × (now (frame .exit) ≡ toldFrame (now (capture .entry)) offset (now (frame .entry)) .out) ⌝ }
 {
-    wire_told::frame_into(capture, offset, frame)
+    wire_frames_bytes::frame_into(capture, offset, frame)
 }

@@ -2,7 +2,7 @@
 ghost use Prim.Native.Nat.{_+_, _≤_};
 ghost use lib.ListN.{length};
 ghost use Rattle.any_text.specs.Put.{Put};
-ghost use Rattle.wire_shown.specs.Shown.{carriedText, frameText, endText};
+ghost use Rattle.wire_frames_text.specs.Shown.{carriedText, frameText, endText};
 use wire_frames::Frame;
 
 // Room for a number, the word `arbitration` and the fields.

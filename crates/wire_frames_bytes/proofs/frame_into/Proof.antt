@@ -5,9 +5,9 @@ use native.Mathlib.Omega.{arith}
 use borrow.Author.Needs.{needs}
 use Rattle.any_text.specs.Puts.{put-then, room-then}
 use Rattle.wire_bytes.specs.Reporting.{field-bytes-length}
-use Rattle.wire_told.specs.Telling.{told-length, told-put, tells-nothing, next-inside, tells-refusal, tells-short, tells-frame}
-use Rattle.wire_told.proofs.frame_into.Statement.{statement}
-use Rattle.wire_told.proofs.frame_into.Tie as tie
+use Rattle.wire_frames_bytes.specs.Telling.{told-length, told-put, tells-nothing, next-inside, tells-refusal, tells-short, tells-frame}
+use Rattle.wire_frames_bytes.proofs.frame_into.Statement.{statement}
+use Rattle.wire_frames_bytes.proofs.frame_into.Tie as tie
 
 cast-result : tie.Need-cast-result
 cast-result c = search needs

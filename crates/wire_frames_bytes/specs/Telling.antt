@@ -13,7 +13,7 @@ use Rattle.wire_bytes.specs.Little.{little-length}
 use Rattle.wire_frames.specs.Frames.{refused, frameAt}
 use Rattle.wire_frames.specs.Framing.{frame-none, frame-inside}
 use Rattle.wire_frames.specs.declared.Frame.{Frame}
-use Rattle.wire_told.specs.Told.{toldBytes, toldLength, carrying, Told, toldOf, told}
+use Rattle.wire_frames_bytes.specs.Told.{toldBytes, toldLength, carrying, Told, toldOf, told}
 
 pub told-length : (at : ℕ) (f : Frame) → length (toldBytes at f) ≡ toldLength
 told-length at f = simp (length-append, little-length)

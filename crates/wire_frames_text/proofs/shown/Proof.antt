@@ -4,9 +4,9 @@ use native.Mathlib.Omega.{arith}
 use borrow.Author.Needs.{needs}
 use Rattle.any_text.specs.Puts.{put-length, put-then}
 use Rattle.any_text.specs.Digits.{width}
-use Rattle.wire_shown.specs.Showing.{shows-carried, shows-refusal}
-use Rattle.wire_shown.proofs.shown.Statement.{statement}
-use Rattle.wire_shown.proofs.shown.Tie as tie
+use Rattle.wire_frames_text.specs.Showing.{shows-carried, shows-refusal}
+use Rattle.wire_frames_text.proofs.shown.Statement.{statement}
+use Rattle.wire_frames_text.proofs.shown.Tie as tie
 
 slice-aggregate-put-line : tie.Need-slice-aggregate-put-line
 slice-aggregate-put-line c = search needs

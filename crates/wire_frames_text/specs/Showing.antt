@@ -9,7 +9,7 @@ use Rattle.any_text.specs.Decimal.{decimal}
 use Rattle.any_text.specs.Line.{line}
 use Rattle.wire_text.specs.Printout.{fieldLines}
 use Rattle.wire_frames.specs.declared.Frame.{Frame}
-use Rattle.wire_shown.specs.Shown.{nothingWord, arbitrationWord, packetWord, fieldWord, refusedWord, carriedText, frameText}
+use Rattle.wire_frames_text.specs.Shown.{nothingWord, arbitrationWord, packetWord, fieldWord, refusedWord, carriedText, frameText}
 
 module _ (f : Frame) where
   pub shows-nothing : f .kind ≡ 0 → carriedText f ≡ nothingWord

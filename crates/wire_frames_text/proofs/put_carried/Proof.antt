@@ -4,9 +4,9 @@ use native.Mathlib.Omega.{arith}
 use borrow.Author.Needs.{needs}
 use Rattle.any_text.specs.Puts.{put-length, put-then}
 use Rattle.wire_text.specs.Widths.{field-lines-width}
-use Rattle.wire_shown.specs.Showing.{shows-nothing, shows-arbitration, shows-packet, shows-field}
-use Rattle.wire_shown.proofs.put_carried.Statement.{statement}
-use Rattle.wire_shown.proofs.put_carried.Tie as tie
+use Rattle.wire_frames_text.specs.Showing.{shows-nothing, shows-arbitration, shows-packet, shows-field}
+use Rattle.wire_frames_text.proofs.put_carried.Statement.{statement}
+use Rattle.wire_frames_text.proofs.put_carried.Tie as tie
 
 slice-aggregate-put-word : tie.Need-slice-aggregate-put-word
 slice-aggregate-put-word c = search needs

@@ -1,6 +1,6 @@
 // What a host that takes numbers and bytes is told of a frame of a capture.
 ghost use mathlib.Core.Path.{_≡_};
-ghost use Rattle.wire_told.specs.Told.{told};
+ghost use Rattle.wire_frames_bytes.specs.Told.{told};
 
 // The fields, and the offset behind the frame.
 pub const TOLD_BYTES: usize = 48;
