@@ -4,6 +4,7 @@ use mathlib.Core.List.{List, [], _∷_, _++_}
 use Prim.Native.Nat.{ℕ}
 use Rattle.any_text.specs.Line.{line}
 use Rattle.merge_text.specs.Words as R
+use Rattle.log_records.specs.PairLine.{doubt}
 use Rattle.log_text.specs.Words as W
 use Rattle.log_text.specs.Answer.{answer}
 use Rattle.contracts.specs.Opened.{logs}
@@ -32,7 +33,7 @@ certain = line R.same []
 
 -- "doubt 9 3 80 11 1 11 4 84 12 0" and "differs 1 1 1 0 0"
 abbrev doubted : List ℕ
-doubted = line W.doubt (9 ∷ 3 ∷ 80 ∷ 11 ∷ 1 ∷ 11 ∷ 4 ∷ 84 ∷ 12 ∷ 0 ∷ []) ++ line R.differs (1 ∷ 1 ∷ 1 ∷ 0 ∷ 0 ∷ [])
+doubted = line doubt (9 ∷ 3 ∷ 80 ∷ 11 ∷ 1 ∷ 11 ∷ 4 ∷ 84 ∷ 12 ∷ 0 ∷ []) ++ line R.differs (1 ∷ 1 ∷ 1 ∷ 0 ∷ 0 ∷ [])
 
 is-certain : answer (log 2 2) ≡ certain
 unfolding logs

@@ -10,7 +10,7 @@ use lib.ListN.{length, getD, replicate}
 use Rattle.rules.specs.State as S
 use Rattle.rules.specs.Range.{inRange}
 use Rattle.rules.specs.Step as Rules
-use Rattle.rules.specs.Open.{countOf, openReport}
+use Rattle.rules.specs.Open.{openNumber, openReport}
 use Rattle.rules_laws.specs.Steps.{fresh-fits}
 use Rattle.rules_laws.specs.Computed.{computed}
 use Rattle.rules_laws.specs.Tests.{is-yes}
@@ -160,12 +160,12 @@ Reports f = (s : State) → OpenStreamsMay s (f s) tt
 pub right-reports : Reports reported
 right-reports s = record { lifetimes = tt; arguments = (s, tt); exit = (s, tt); is-given = refl; leaves = refl; met = refl }
 
--- 5: for some state in range, the count is not the number of open streams.
+-- 5: for some state in range, the number is not that of the open streams.
 abbrev pub MakesUpStreams : Reporter → Type 0
-MakesUpStreams f = (s : S.State) × T (inRange s) × (f (represent s) .count ≢ countOf (s .core .board .opens))
+MakesUpStreams f = (s : S.State) × T (inRange s) × (f (represent s) .number ≢ openNumber (s .core .board .opens))
 
 module _ (f : Reporter) (meets : Reports f) where
   pub not-makes-up-streams : ¬ MakesUpStreams f
   unfolding reported openReport
-  not-makes-up-streams (s, fits, wrong) = wrong (ap (λ (r : Report). r .count) (only-open-streams (represent s) (f (represent s)) tt (meets (represent s)) .0)
+  not-makes-up-streams (s, fits, wrong) = wrong (ap (λ (r : Report). r .number) (only-open-streams (represent s) (f (represent s)) tt (meets (represent s)) .0)
       ∙ rw (fits-represent s fits, hold-represent s fits, is-yes (inRange s) .to fits) refl)

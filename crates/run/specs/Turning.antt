@@ -30,14 +30,14 @@ use Rattle.step_service.specs.Asks.{hears}
 use Rattle.step_service.specs.Posting.{all-heard}
 use Rattle.step_asks.specs.Groups.{atRow, atDesk, runsAfter}
 use Rattle.step_asks.specs.Kinds.{RowKind, DeskKind, row-at, desk-at}
-use Rattle.step_classes.specs.At.{At}
-use Rattle.step_classes.specs.declared.Row.{Row}
-use Rattle.step_classes.specs.Turns.{rowAnswer, rowAfter, deskAnswer, serviceAfter, posting, boardAnswer, boardAfter}
-use Rattle.step_classes.specs.Asks.{RowAsks, RowGoes, DeskGoes, BoardAsks, BoardGoes}
-use Rattle.step_classes.specs.Called.{askOf, refused-leaves}
-use Rattle.step_classes.specs.RowTurns.{row-asks, row-answered, row-goes, rowBody, rowMoved, learn-leaves, row-leaves, row-entry}
-use Rattle.step_classes.specs.DeskTurns.{desk-answered, desk-goes, desk-written, desk-room, desk-posts, desk-quiet}
-use Rattle.step_classes.specs.BoardTurns.{board-asks, board-answered, board-goes, board-leaves}
+use Rattle.step_groups.specs.At.{At}
+use Rattle.step_groups.specs.declared.Row.{Row}
+use Rattle.step_groups.specs.Turns.{rowAnswer, rowAfter, deskAnswer, serviceAfter, posting, boardAnswer, boardAfter}
+use Rattle.step_groups.specs.Asks.{RowAsks, RowGoes, DeskGoes, BoardAsks, BoardGoes}
+use Rattle.step_groups.specs.Called.{askOf, refused-leaves}
+use Rattle.step_groups.specs.RowTurns.{row-asks, row-answered, row-goes, rowBody, rowMoved, learn-leaves, row-leaves, row-entry}
+use Rattle.step_groups.specs.DeskTurns.{desk-answered, desk-goes, desk-written, desk-room, desk-posts, desk-quiet}
+use Rattle.step_groups.specs.BoardTurns.{board-asks, board-answered, board-goes, board-leaves}
 use Rattle.run_lists.specs.EventList.{recordCount, recordAt, historyBytes}
 use Rattle.run_lists.specs.declared.Trailer.{Trailer}
 use Rattle.run.specs.Tables.{bodyIn, pending, settled}

@@ -14,7 +14,7 @@ ghost use Rattle.run.specs.Tables.{bodyIn};
 ghost use Rattle.run.specs.Running.{ifAccepted, Runs};
 use run_lists::Trailer;
 use step_asks::Ask;
-use step_classes::MaybeWrite;
+use step_groups::MaybeWrite;
 use step_state::Table;
 
 // The bytes behind the answers: room for a full history.
@@ -91,15 +91,15 @@ fn run_records(list: &[u8], trailer: Trailer, out: &mut [u8]) -> u16
             let controller = table.controllers[at];
             let stream = table.streams[at];
             let claims = table.claims;
-            step_classes::row_code(ask, writes, controller, stream, claims)
+            step_groups::row_code(ask, writes, controller, stream, claims)
         } else if step_asks::at_desk(ask) {
             let service = table.service;
             let rows = table.controllers;
-            step_classes::desk_code(ask, service, rows)
+            step_groups::desk_code(ask, service, rows)
         } else {
             let streams = table.streams;
             let claims = table.claims;
-            step_classes::board_code(ask, streams, claims)
+            step_groups::board_code(ask, streams, claims)
         };
         out[i] = code;
         i += 1;
@@ -115,7 +115,7 @@ fn run_records(list: &[u8], trailer: Trailer, out: &mut [u8]) -> u16
             }
             let stream = table.streams[at];
             let claims = table.claims;
-            let row = step_classes::row_after(ask, controller, stream, claims);
+            let row = step_groups::row_after(ask, controller, stream, claims);
             let next = row.stream;
             let held = row.claims;
             let entry = row.entry;
@@ -127,16 +127,16 @@ fn run_records(list: &[u8], trailer: Trailer, out: &mut [u8]) -> u16
         }
         if step_asks::at_desk(ask) {
             let service = table.service;
-            let next = step_classes::service_after(ask, service);
+            let next = step_groups::service_after(ask, service);
             table.service = next;
-            if step_classes::posts(ask, service) {
+            if step_groups::posts(ask, service) {
                 reached = 0;
             }
             continue;
         }
         let streams = table.streams;
         let claims = table.claims;
-        let board = step_classes::board_after(ask, streams, claims);
+        let board = step_groups::board_after(ask, streams, claims);
         let next = board.streams;
         let held = board.claims;
         table.streams = next;

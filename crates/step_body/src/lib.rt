@@ -11,10 +11,10 @@ ghost use Rattle.step_moves.specs.Bodies.{stateOf, Ready, Leaves};
 ghost use Rattle.step_moves.specs.Sets.{withDesk, withController, withBoard};
 ghost use Rattle.step_moves.specs.Acts.{plain};
 ghost use Rattle.step_asks.specs.Groups.{atRow, atDesk};
-ghost use Rattle.step_classes.specs.Called.{askOf};
-ghost use Rattle.step_classes.specs.RowTurns.{rowMoved};
+ghost use Rattle.step_groups.specs.Called.{askOf};
+ghost use Rattle.step_groups.specs.RowTurns.{rowMoved};
 use step_asks::Ask;
-use step_classes::Row;
+use step_groups::Row;
 use step_parts::Mastership;
 use step_parts::Term;
 use step_state::Board;
@@ -112,13 +112,13 @@ fn at_row(body: Body, writes: u16, kind: u8, node: u8) -> Moved
     let controller = core.controllers[at];
     let stream = core.streams[at];
     let claims = core.claims;
-    let code = step_classes::row_code(ask, writes, controller, stream, claims);
+    let code = step_groups::row_code(ask, writes, controller, stream, claims);
     if code == step_parts::DONE {
         if kind == step_parts::LEARN {
             let next = step_nodes::learn(controller);
             return plain(step_parts::DONE, with_controller(body, node, next));
         }
-        let row = step_classes::row_after(ask, controller, stream, claims);
+        let row = step_groups::row_after(ask, controller, stream, claims);
         return with_row(body, node, row);
     }
     plain(code, body)
@@ -138,10 +138,10 @@ fn at_desk(body: Body, kind: u8, node: u8) -> Moved
     let core = body.core;
     let service = core.service;
     let controllers = core.controllers;
-    let code = step_classes::desk_code(ask, service, controllers);
+    let code = step_groups::desk_code(ask, service, controllers);
     if code == step_parts::DONE {
-        let next = step_classes::service_after(ask, service);
-        if step_classes::posts(ask, service) {
+        let next = step_groups::service_after(ask, service);
+        if step_groups::posts(ask, service) {
             let heard = step_service::post(body.count, controllers, next);
             return plain(step_parts::DONE, with_desk(body, next, heard));
         }
@@ -164,9 +164,9 @@ fn at_board(body: Body, kind: u8, node: u8) -> Moved
     let core = body.core;
     let streams = core.streams;
     let claims = core.claims;
-    let code = step_classes::board_code(ask, streams, claims);
+    let code = step_groups::board_code(ask, streams, claims);
     if code == step_parts::DONE {
-        let board = step_classes::board_after(ask, streams, claims);
+        let board = step_groups::board_after(ask, streams, claims);
         return plain(
             step_parts::DONE,
             with_board(body, step_asks::runs_after(ask), board),

@@ -12,9 +12,9 @@ use Rattle.step_moves.specs.Sets.{withBoard}
 use Rattle.step_moves.specs.Stored.{few, in-order-controllers}
 use Rattle.step_asks.specs.declared.Ask.{Ask}
 use Rattle.step_asks.specs.Groups.{atRow, atDesk}
-use Rattle.step_classes.specs.Called.{askOf}
-use Rattle.step_classes.specs.At.{At}
-use Rattle.step_classes.specs.Nodes.{controller-ordered}
+use Rattle.step_groups.specs.Called.{askOf}
+use Rattle.step_groups.specs.At.{At}
+use Rattle.step_groups.specs.Nodes.{controller-ordered}
 use Rattle.run.specs.Tables.{bodyIn, pending, settled, heard}
 use Rattle.run.specs.Running.{Running, starts, keeps-length, ready, ends}
 use Rattle.run.specs.Turning.{Coded, of-row, of-desk, of-board, Turn, in-range, refused-way, at-row, asks-row, goes-row, learn-way, row-room, row-way, goes-desk, post-way, quiet-way, asks-board, goes-board, board-way, same-body, unposted}

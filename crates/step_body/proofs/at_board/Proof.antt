@@ -5,9 +5,9 @@ use Rattle.rules.specs.Codes.{stepDone}
 use Rattle.rules.specs.Step.{kindOf}
 use Rattle.step_moves.specs.Sets.{withBoard}
 use Rattle.step_moves.specs.Acts.{plain}
-use Rattle.step_classes.specs.At.{leaves-as}
-use Rattle.step_classes.specs.Called.{refused-leaves}
-use Rattle.step_classes.specs.BoardTurns.{board-asks, board-answered, board-goes, board-leaves}
+use Rattle.step_groups.specs.At.{leaves-as}
+use Rattle.step_groups.specs.Called.{refused-leaves}
+use Rattle.step_groups.specs.BoardTurns.{board-asks, board-answered, board-goes, board-leaves}
 use borrow.Author.Needs.{needs}
 use Rattle.step_body.proofs.at_board.Statement.{statement}
 use Rattle.step_body.proofs.at_board.Tie as tie

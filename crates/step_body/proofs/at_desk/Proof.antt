@@ -6,9 +6,9 @@ use Rattle.rules.specs.Step.{kindOf}
 use Rattle.step_moves.specs.Stored.{few, in-order-controllers}
 use Rattle.step_moves.specs.Acts.{plain}
 use Rattle.step_asks.specs.Kinds.{DeskKind, desk-at}
-use Rattle.step_classes.specs.At.{At, leaves-as}
-use Rattle.step_classes.specs.Called.{askOf, refused-leaves}
-use Rattle.step_classes.specs.DeskTurns.{desk-answered, desk-goes, desk-written, desk-room, desk-posts, desk-quiet}
+use Rattle.step_groups.specs.At.{At, leaves-as}
+use Rattle.step_groups.specs.Called.{askOf, refused-leaves}
+use Rattle.step_groups.specs.DeskTurns.{desk-answered, desk-goes, desk-written, desk-room, desk-posts, desk-quiet}
 use borrow.Author.Needs.{needs}
 use Rattle.step_body.proofs.at_desk.Statement.{statement}
 use Rattle.step_body.proofs.at_desk.Tie as tie

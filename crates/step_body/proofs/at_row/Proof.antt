@@ -13,11 +13,11 @@ use Rattle.step_moves.specs.Gets.{controllerOf, streamOf}
 use Rattle.step_moves.specs.Stored.{few}
 use Rattle.step_moves.specs.Acts.{plain}
 use Rattle.step_asks.specs.Kinds.{RowKind, row-at}
-use Rattle.step_classes.specs.Turns.{rowAnswer}
-use Rattle.step_classes.specs.At.{At, leaves-as}
-use Rattle.step_classes.specs.Nodes.{controller-ordered}
-use Rattle.step_classes.specs.Called.{askOf, refused-leaves}
-use Rattle.step_classes.specs.RowTurns.{row-asks, row-answered, row-goes, rowMoved, learn-leaves, row-leaves}
+use Rattle.step_groups.specs.Turns.{rowAnswer}
+use Rattle.step_groups.specs.At.{At, leaves-as}
+use Rattle.step_groups.specs.Nodes.{controller-ordered}
+use Rattle.step_groups.specs.Called.{askOf, refused-leaves}
+use Rattle.step_groups.specs.RowTurns.{row-asks, row-answered, row-goes, rowMoved, learn-leaves, row-leaves}
 use borrow.Author.Needs.{needs}
 use Rattle.step_body.proofs.at_row.Statement.{statement}
 use Rattle.step_body.proofs.at_row.Tie as tie
