@@ -22,9 +22,9 @@ fn text(files: &[String]) -> Result<String, String> {
     }
 }
 
-/// None if the file cannot be opened; what cannot be read is empty.
+/// None if the file cannot be opened or read.
 fn read(file: &str) -> Option<Vec<u8>> {
     let mut bytes = Vec::new();
-    let _ = File::open(file).ok()?.take(READ).read_to_end(&mut bytes);
+    File::open(file).ok()?.take(READ).read_to_end(&mut bytes).ok()?;
     Some(bytes)
 }

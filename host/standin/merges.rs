@@ -13,11 +13,9 @@ fn main() {
 
 fn text(file: &str) -> String {
     let mut bytes = Vec::new();
-    match File::open(file) {
-        Ok(file) => {
-            let _ = file.take(judge::LONGEST_TEXT as u64 + 1).read_to_end(&mut bytes);
-            judge::merges_text(&bytes)
-        }
+    let read = |file: File| file.take(judge::LONGEST_TEXT as u64 + 1).read_to_end(&mut bytes);
+    match File::open(file).and_then(read) {
+        Ok(_) => judge::merges_text(&bytes),
         Err(_) => "refused file\n".to_string(),
     }
 }

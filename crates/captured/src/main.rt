@@ -2,7 +2,6 @@
 ghost use Prim.Native.Nat.{_≤_};
 ghost use lib.ListN.{length};
 use files::Input;
-use libc::STDOUT_FILENO;
 use wire_frames::Frame;
 
 // A head, and the longest message that a frame may hold.
@@ -41,15 +40,13 @@ fn read_next(space: &mut [u8]) -> Next
     Next::Read(wire_frames::read_frame(&space[..all]))
 }
 
-// Prints the text of a frame, and answers whether to go on: not behind a refusal, and not where the text could not be written, of which it says why on
-// standard error.
+// Prints the text of a frame, and answers whether to go on: not after a refusal, and not where the text could not be written.
 fn printed(number: u64, offset: u64, frame: Frame) -> bool {
     let mut text = [0u8; wire_frames_text::LONGEST_TEXT];
     let length = wire_frames_text::shown(number, offset, frame, &mut text);
-    if io::write_all(STDOUT_FILENO, &text[..length]) {
+    if files::print(&text[..length]) {
         return frame.code == wire_fields::READ;
     }
-    os::fail(b"standard output");
     false
 }
 

@@ -43,9 +43,9 @@ fn refusals(program: &Program) -> Result<(), String> {
     program.prints(&[list, list, list], USAGE)?;
     program.prints(&[missing, missing], "refused first file\n")?;
     program.prints(&[list, missing], "refused second file\n")?;
-    program.prints(&[folder, missing], "refused second file\n")?;
-    program.prints(&[folder, list], "refused first 8\n")?;
-    program.prints(&[list, folder], "refused second 8\n")?;
+    program.prints(&[folder, missing], "refused first file\n")?;
+    program.prints(&[folder, list], "refused first file\n")?;
+    program.prints(&[list, folder], "refused second file\n")?;
     program.prints(&[list, list], "same\nwrites 0 0\nagrees\n")?;
     let long = [vec![0; LONGEST_LIST + 1 - one.len()], one.clone()].concat();
     compares(program, &one, &long)?;
