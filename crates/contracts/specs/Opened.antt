@@ -9,7 +9,8 @@ use Rattle.run.specs.Ran.{runRefusal, ran}
 use Rattle.any_text.specs.Decimal.{digits, decimal}
 use Rattle.any_text.specs.Line.{spaced, line}
 use Rattle.any_text.specs.Lines.{recordLine, writesLine, writeLine}
-use Rattle.run_text.specs.Transcript.{lines, runText, transcript}
+use Rattle.run_lines.specs.RunText.{lines, runText}
+use Rattle.run_text.specs.Transcript.{transcript}
 use Rattle.merge_compare.specs.Compare.{compare}
 use Rattle.merge_compare.specs.Compared.{compared}
 use Rattle.merge_call.specs.Reply.{reply}

@@ -9,7 +9,8 @@ use Rattle.any_list.specs.Arrays.{table}
 use Rattle.run_lists.specs.EventList.{nodeCount, recordCount, records, refusal}
 use Rattle.run.specs.Ran.{noWrites, Ran, ran}
 use Rattle.run_lists.specs.Entries.{entryAt}
-use Rattle.run_text.specs.Transcript.{runText, transcript}
+use Rattle.run_lines.specs.RunText.{runText}
+use Rattle.run_text.specs.Transcript.{transcript}
 use Rattle.rules_oldmaster.specs.KeptOut.{KeptOut}
 
 -- ---- bytes

@@ -14,7 +14,7 @@ use Rattle.any_text.specs.Decimal.{digit, decimal, saidAfter}
 use Rattle.any_text.specs.Lines.{blank, newline, number, recordLine, writesLine, writeLine}
 use Rattle.any_text.specs.Digits.{Digits, end, next, only-digits, says-itself}
 use Rattle.run_lists.specs.Entries.{noWrite}
-use Rattle.run_text.specs.Transcript.{lines, runText}
+use Rattle.run_lines.specs.RunText.{lines, runText}
 
 -- A byte that is no digit ends a number; `so-far` is what the digits before have said.
 unfoldable numbers : ℕ → List ℕ → List ℕ

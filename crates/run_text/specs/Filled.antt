@@ -12,8 +12,9 @@ use Rattle.run_lists.specs.Good.{good}
 use Rattle.run.specs.Ran.{noWrites, historyRoom, wholeRun, Ran, ran}
 use Rattle.run.specs.Refusing.{ran-all}
 use Rattle.any_text.specs.Lines.{refusedLine}
-use Rattle.run_text.specs.Transcript.{runText, transcript}
-use Rattle.run_text.specs.Bytes.{bytesText}
+use Rattle.run_lines.specs.RunText.{runText}
+use Rattle.run_text.specs.Transcript.{transcript}
+use Rattle.run_lines.specs.Bytes.{bytesText}
 use Rattle.run.specs.Whole.{all-answered, few-writes}
 use Rattle.run_text.specs.Reading.{bytes-text}
 

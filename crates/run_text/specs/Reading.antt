@@ -9,9 +9,9 @@ use Rattle.rules.specs.State.{Write}
 use Rattle.run_lists.specs.EventList.{recordCount, historyBytes}
 use Rattle.any_text.specs.Lines.{writesLine}
 use Rattle.run_lists.specs.Written.{entry-read}
-use Rattle.run_text.specs.Transcript.{recordLineAt, lineOf, runText}
-use Rattle.run_text.specs.Bytes.{bytesText}
-use Rattle.run_text.specs.Lines.{lines-same}
+use Rattle.run_lines.specs.RunText.{recordLineAt, lineOf, runText}
+use Rattle.run_lines.specs.Bytes.{bytesText}
+use Rattle.run_lines.specs.Lines.{lines-same}
 
 module _ (list answers : List ℕ) (ws : List Write) (rest : List ℕ) (all : length answers ≡ recordCount list) where
   part : drop (recordCount list) (answers ++ historyBytes ws ++ rest) ≡ historyBytes ws ++ rest

@@ -6,7 +6,8 @@ use Rattle.rules_laws.specs.Computed.{computed}
 use Rattle.run_lists.specs.EventList as EventList
 use Rattle.any_text.specs.Decimal as Decimal
 use Rattle.any_text.specs.Lines as Lines
-use Rattle.run_text.specs.Transcript.{lines, runText, transcript}
+use Rattle.run_lines.specs.RunText.{lines, runText}
+use Rattle.run_text.specs.Transcript.{transcript}
 
 abbrev listed : List ℕ
 listed = 1 ∷ 1 ∷ 3 ∷ 1 ∷ 8 ∷ 1 ∷ 4 ∷ 1 ∷ 10 ∷ 1 ∷ 5 ∷ 1 ∷ 6 ∷ 1 ∷ 11 ∷ 1 ∷ 0 ∷ 0 ∷ 0 ∷ 0 ∷ 8 ∷ 0 ∷ 0 ∷ 0 ∷ 2 ∷ 0 ∷ 77 ∷ 65 ∷ []

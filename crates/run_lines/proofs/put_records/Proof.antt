@@ -8,10 +8,10 @@ use Rattle.rules.specs.Step.{Event}
 use Rattle.any_text.specs.Lines.{recordLine}
 use Rattle.any_text.specs.Puts.{put-length}
 use Rattle.any_text.specs.Widths.{record-line-width}
-use Rattle.run_text.specs.Transcript.{recordLineAt}
-use Rattle.run_text.specs.Lines.{Lined, lined-none, lined-more, lined-room}
-use Rattle.run_text.proofs.put_records.Statement.{statement}
-use Rattle.run_text.proofs.put_records.Tie as tie
+use Rattle.run_lines.specs.RunText.{recordLineAt}
+use Rattle.run_lines.specs.Lines.{Lined, lined-none, lined-more, lined-room}
+use Rattle.run_lines.proofs.put_records.Statement.{statement}
+use Rattle.run_lines.proofs.put_records.Tie as tie
 
 abbrev Inv-loop : tie.InvT-loop
 Inv-loop buf₀ list trailer answers at₀ i₀ buf at i = (i ≤ trailer .records) × Lined (recordLineAt list answers) 18 buf₀ 0 i buf at

@@ -7,11 +7,11 @@ use lib.ListN.{length}
 use Rattle.any_text.specs.Lines.{writeLine}
 use Rattle.any_text.specs.Puts.{put-length}
 use Rattle.any_text.specs.Widths.{write-line-width}
-use Rattle.run_text.specs.Transcript.{lineOf}
-use Rattle.run_text.specs.Bytes.{entryLineAt}
-use Rattle.run_text.specs.Lines.{Lined, lined-none, lined-more, lined-room}
-use Rattle.run_text.proofs.put_writes.Statement.{statement}
-use Rattle.run_text.proofs.put_writes.Tie as tie
+use Rattle.run_lines.specs.RunText.{lineOf}
+use Rattle.run_lines.specs.Bytes.{entryLineAt}
+use Rattle.run_lines.specs.Lines.{Lined, lined-none, lined-more, lined-room}
+use Rattle.run_lines.proofs.put_writes.Statement.{statement}
+use Rattle.run_lines.proofs.put_writes.Tie as tie
 
 abbrev Inv-loop : tie.InvT-loop
 Inv-loop buf₀ at part writes next₀ i₀ buf next i = (i ≤ writes) × Lined (entryLineAt part) 10 buf₀ at i buf next

@@ -8,7 +8,7 @@ use native.Mathlib.Omega.{arith}
 use lib.ListN.{length}
 use Rattle.any_text.specs.Put.{Room, Put}
 use Rattle.any_text.specs.Puts.{put-none, put-then, put-length}
-use Rattle.run_text.specs.Transcript.{lines}
+use Rattle.run_lines.specs.RunText.{lines}
 
 pub lines-same : (f g : ℕ → List ℕ) (n : ℕ) → ((i : ℕ) → i < n → f i ≡ g i) → lines f n ≡ lines g n
 unfolding lines

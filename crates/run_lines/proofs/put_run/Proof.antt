@@ -12,11 +12,11 @@ use Rattle.any_text.specs.Put.{Put}
 use Rattle.any_text.specs.Puts.{put-then, put-length}
 use Rattle.any_text.specs.Widths.{writes-line-width}
 use Rattle.run_lists.specs.EventList.{recordCount}
-use Rattle.run_text.specs.Transcript.{recordLineAt}
-use Rattle.run_text.specs.Bytes.{entryLineAt, bytesText, longestText}
-use Rattle.run_text.specs.Lines.{Lined}
-use Rattle.run_text.proofs.put_run.Statement.{statement}
-use Rattle.run_text.proofs.put_run.Tie as tie
+use Rattle.run_lines.specs.RunText.{recordLineAt}
+use Rattle.run_lines.specs.Bytes.{entryLineAt, bytesText, longestText}
+use Rattle.run_lines.specs.Lines.{Lined}
+use Rattle.run_lines.proofs.put_run.Statement.{statement}
+use Rattle.run_lines.proofs.put_run.Tie as tie
 
 -- ---- stations: the start; the lines of the records put; the line of the number of writes put
 
