@@ -17,7 +17,7 @@ use Rattle.step_service.specs.Asks.{Joins, Leaving}
 use Rattle.step_nodes.specs.Waiting.{Waits}
 use Rattle.step_streams.specs.Asks.{IsNode}
 use Rattle.step_switch.specs.Asks.{AtBoard, Tells}
-use Rattle.step_switch_write.specs.Asks.{CanWrite}
+use Rattle.step_switch_row.specs.Asks.{CanWrite}
 use Rattle.step_asks.specs.Groups.{existence}
 use Rattle.step_asks.specs.Kinds.{RowKind, DeskKind, BoardKind}
 use Rattle.step_asks.specs.declared.Ask.{Ask}

@@ -26,9 +26,9 @@ use Rattle.step_moves.specs.Bodies.{stateOf, Leaves}
 use Rattle.step_moves.specs.Sets.{withDesk, withController, withStream, withLast}
 use Rattle.step_moves.specs.Gets.{controllerOf, streamOf, inbox-read, sender-read, receiver-read, linked-read, served-read}
 use Rattle.step_moves.specs.Acts.{plain, passes}
-use Rattle.step_switch_write.specs.Handled.{storeHandled}
-use Rattle.step_switch_write.specs.declared.Handled.{Handled}
-use Rattle.step_switch_write.proofs.Callers.{write-can, write-effect, acceptedOf, accepted-back}
+use Rattle.step_switch_row.specs.Handled.{storeHandled}
+use Rattle.step_switch_row.specs.declared.Handled.{Handled}
+use Rattle.step_switch_row.proofs.Callers.{write-can, write-effect, acceptedOf, accepted-back}
 use Rattle.step_asks.specs.Kinds.{RowKind, learns, sendUpdate, receiveUpdate, sendWrite, receiveWrite, connect, handleWrite, inside}
 use Rattle.step_groups.specs.At.{At, row-in}
 use Rattle.step_groups.specs.Nodes.{controller-ordered, stream-ordered, learn-yes, send-yes, receive-update-yes, receive-write-yes, sends, waits}

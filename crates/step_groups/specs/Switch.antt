@@ -19,7 +19,7 @@ use Rattle.step_state.specs.declared.Board.{Board}
 use Rattle.step_state.specs.declared.Body.{Body}
 use Rattle.step_state.specs.declared.Moved.{Moved}
 use Rattle.step_switch.specs.Asks.{AtBoard}
-use Rattle.step_switch_write.specs.Asks.{AtStream}
+use Rattle.step_switch_row.specs.Asks.{AtStream}
 use Rattle.step_moves.specs.Bodies.{stateOf, acceptedIn, Ready, Leaves}
 use Rattle.step_moves.specs.Sets.{withBoard, withStream, withLast}
 use Rattle.step_moves.specs.Gets.{streamOf, linked-read, served-read}

@@ -18,8 +18,8 @@ use Rattle.step_state.specs.declared.Stream.{Stream}
 use Rattle.step_state.specs.declared.Claims.{Claims}
 use Rattle.step_state.specs.declared.Board.{Board}
 use Rattle.step_nodes.specs.Waiting.{received}
-use Rattle.step_switch_write.specs.Handled.{storeHandled}
-use Rattle.step_switch_write.specs.declared.Handled.{Handled}
+use Rattle.step_switch_row.specs.Handled.{storeHandled}
+use Rattle.step_switch_row.specs.declared.Handled.{Handled}
 use Rattle.step_asks.specs.declared.Ask.{Ask}
 use Rattle.step_asks.specs.Groups.{existence}
 use Rattle.step_groups.specs.declared.Row.{Row}

@@ -9,7 +9,7 @@ ghost use Rattle.rules.specs.Step.{numberOf};
 ghost use Rattle.step_state.specs.Order.{OrderedControllers};
 ghost use Rattle.step_asks.specs.Groups.{existence};
 ghost use Rattle.step_nodes.specs.Waiting.{Waits};
-ghost use Rattle.step_switch_write.specs.Asks.{CanWrite};
+ghost use Rattle.step_switch_row.specs.Asks.{CanWrite};
 ghost use Rattle.step_groups.specs.Turns.{rowAnswer, deskAnswer, switchAnswer, boardAnswer, quiet, flaggedRow, writtenRow, rowAfter, serviceAfter, posting, boardAfter};
 ghost use Rattle.step_groups.specs.Asks.{RowAsks, BoardAsks, RowGoes, DeskGoes, BoardGoes};
 use step_asks::Ask;
@@ -64,8 +64,8 @@ pub fn row_code(ask: Ask, writes: u16, controller: Controller, stream: Stream, c
             stream,
         ),
         step_parts::RECEIVE_WRITE => allowed_code(step_nodes::may_receive_write(stream)),
-        step_parts::CONNECT => step_switch::connect_code(ask.running, stream),
-        _ => step_switch_write::handle_write_code(
+        step_parts::CONNECT => step_switch_row::connect_code(ask.running, stream),
+        _ => step_switch_row::handle_write_code(
             ask.count,
             ask.node,
             ask.running,
@@ -152,7 +152,7 @@ fn written(ask: Ask, controller: Controller, stream: Stream, claims: Claims) -> 
     requires { ⌜ CanWrite (ask .count) (ask .node) stream claims ⌝ }
     ensures { λ r. ⌜ r ≡ writtenRow ask controller stream claims ⌝ }
 {
-    let handled = step_switch_write::handle_write(ask.count, ask.node, stream, claims);
+    let handled = step_switch_row::handle_write(ask.count, ask.node, stream, claims);
     let next = handled.stream;
     let last = handled.last;
     let term = handled.term;
@@ -192,7 +192,7 @@ pub fn row_after(ask: Ask, controller: Controller, stream: Stream, claims: Claim
             step_nodes::send_write(ask.count, ask.node, controller, stream),
         ),
         step_parts::RECEIVE_WRITE => quiet(ask, controller, claims, step_nodes::receive(stream)),
-        step_parts::CONNECT => quiet(ask, controller, claims, step_switch::connect(stream)),
+        step_parts::CONNECT => quiet(ask, controller, claims, step_switch_row::connect(stream)),
         _ => written(ask, controller, stream, claims),
     }
 }

@@ -1,4 +1,4 @@
-// The switch's steps but Handle write: kinds 8 to 10 and 12. Kind 13 is the flag alone.
+// The switch's steps that concern all streams: kinds 9, 10 and 12. Kind 13 is the flag alone.
 // A step is two functions: one gives its answer code and only reads, the other does what is to be done where the code is 0.
 ghost use mathlib.Core.Path.{_≡_};
 ghost use mathlib.Core.Bool.{true};
@@ -6,11 +6,11 @@ ghost use Prim.Native.Nat.{_≤_};
 ghost use Rattle.rules.specs.Limits.{mostNodes};
 ghost use Rattle.rules.specs.Part.{decide};
 ghost use Rattle.rules.specs.Rules as R;
-ghost use Rattle.rules.specs.Rules.{connectRule, closeRule, closeRoom, handleUpdateRule, updateRoom, cleared};
+ghost use Rattle.rules.specs.Rules.{closeRule, closeRoom, handleUpdateRule, updateRoom, cleared};
 ghost use Rattle.step_state.specs.Hold.{holdBoard};
 ghost use Rattle.step_state.specs.Order.{OrderedBoard};
-ghost use Rattle.step_state.specs.Reads.{answerOf, linkedOf, toldOf};
-ghost use Rattle.step_state.specs.Stores.{storeOpen, storeTelling, packBoard};
+ghost use Rattle.step_state.specs.Reads.{answerOf, toldOf};
+ghost use Rattle.step_state.specs.Stores.{storeTelling, packBoard};
 ghost use Rattle.step_switch.specs.Asks.{AtBoard, Tells, UpdateAt, CanUpdate};
 ghost use Rattle.step_switch.specs.Does.{closedStream, withClaim, clearedAt, collides};
 use step_parts::ElectionId;
@@ -21,28 +21,6 @@ use step_parts::Term;
 use step_state::Board;
 use step_state::Claims;
 use step_state::Stream;
-
-// 8 Connect: its answer.
-pub fn connect_code(running: bool, stream: Stream) -> u8
-    ensures { λ r. ⌜ r ≡ answerOf (decide connectRule (linkedOf running stream)) ⌝ }
-{
-    if running {
-        if stream.opened {
-            return step_parts::NOT_ALLOWED;
-        }
-        return step_parts::DONE;
-    }
-    step_parts::NOT_ALLOWED
-}
-
-// 8 Connect: the stream is opened.
-pub fn connect(stream: Stream) -> Stream
-    ensures { λ r. ⌜ r ≡ storeOpen true stream ⌝ }
-{
-    let mut next = stream;
-    next.opened = true;
-    next
-}
 
 // A closed stream.
 fn closed_stream() -> Stream

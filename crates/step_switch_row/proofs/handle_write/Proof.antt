@@ -8,11 +8,11 @@ use Rattle.step_parts.specs.declared.Request.{Request}
 use Rattle.step_parts.specs.declared.Term.{Term}
 use Rattle.step_state.specs.declared.Stream.{Stream}
 use Rattle.step_streams.specs.Does.{responded}
-use Rattle.step_switch_write.specs.declared.Handled.{Handled}
-use Rattle.step_switch_write.specs.Does.{judged}
-use Rattle.step_switch_write.proofs.Writing.{has-head, headId, accepted, denied}
-use Rattle.step_switch_write.proofs.handle_write.Statement.{statement}
-use Rattle.step_switch_write.proofs.handle_write.Tie as tie
+use Rattle.step_switch_row.specs.declared.Handled.{Handled}
+use Rattle.step_switch_row.specs.Does.{judged}
+use Rattle.step_switch_row.proofs.Writing.{has-head, headId, accepted, denied}
+use Rattle.step_switch_row.proofs.handle_write.Statement.{statement}
+use Rattle.step_switch_row.proofs.handle_write.Tie as tie
 
 -- whether the write is accepted
 judges : (c : tie.After-accepts) (b : Bool) → c .accepts .result ≡ b → let start = c .before .before .before .before in judged (start .args .count) (start .args .node) (headId (start .args .stream)) (start .args .claims) ≡ b

@@ -2,9 +2,9 @@
 use mathlib.Core.Path.{sym, _∙_}
 use borrow.Author.Tests.{eq-eqb, ne-eqb}
 use borrow.Author.Needs.{needs}
-use Rattle.step_switch_write.proofs.Writing.{judged-is}
-use Rattle.step_switch_write.proofs.accepts.Statement.{statement}
-use Rattle.step_switch_write.proofs.accepts.Tie as tie
+use Rattle.step_switch_row.proofs.Writing.{judged-is}
+use Rattle.step_switch_row.proofs.accepts.Statement.{statement}
+use Rattle.step_switch_row.proofs.accepts.Tie as tie
 
 sub-at : tie.Need-sub-at
 sub-at c = search needs

@@ -15,9 +15,9 @@ use Rattle.step_state.specs.declared.Stream.{Stream}
 use Rattle.step_state.specs.declared.Claims.{Claims}
 use Rattle.step_streams.proofs.Answers.{clear}
 use Rattle.step_streams.proofs.Waiting.{running-too, message}
-use Rattle.step_switch_write.specs.declared.Handled.{Handled}
-use Rattle.step_switch_write.specs.Asks.{AtStream, CanWrite}
-use Rattle.step_switch_write.specs.Handled.{storeHandled}
+use Rattle.step_switch_row.specs.declared.Handled.{Handled}
+use Rattle.step_switch_row.specs.Asks.{AtStream, CanWrite}
+use Rattle.step_switch_row.specs.Handled.{storeHandled}
 
 module _ (count n : ℕ) (running : Bool) (stream : Stream) (claims : Claims) (writes : ℕ) where
   pub write-can : AtStream count n stream → answerOf (decide (handleWriteRule n) (servedOf count n running stream claims writes)) ≡ stepDone → CanWrite count n stream claims

@@ -4,7 +4,7 @@ use Rattle.rules.specs.Queues.{first, empty}
 use Rattle.rules.specs.Parts.{Serving}
 use Rattle.step_state.specs.Stores.{storeServing}
 use Rattle.step_state.specs.declared.Stream.{Stream}
-use Rattle.step_switch_write.specs.declared.Handled.{Handled}
+use Rattle.step_switch_row.specs.declared.Handled.{Handled}
 
 -- What Handle write writes: the stream, the last accepted term, and the write that joins the history, if it is accepted.
 unfoldable pub storeHandled : Serving → Stream → Handled

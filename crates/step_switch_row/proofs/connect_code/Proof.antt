@@ -1,8 +1,8 @@
 -- `connect_code` meets its contract. Assumes nothing.
 use Rattle.rules.specs.Part.{decide}
 use Rattle.rules.specs.Rules.{connectRule}
-use Rattle.step_switch.proofs.connect_code.Statement.{statement}
-use Rattle.step_switch.proofs.connect_code.Tie as tie
+use Rattle.step_switch_row.proofs.connect_code.Statement.{statement}
+use Rattle.step_switch_row.proofs.connect_code.Tie as tie
 
 returns : tie.Need-returns
 unfolding decide connectRule

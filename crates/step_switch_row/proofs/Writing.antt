@@ -27,9 +27,9 @@ use Rattle.step_streams.specs.Asks.{IsNode, HasHead}
 use Rattle.step_streams.specs.Does.{responded, withoutHead, waiting}
 use Rattle.step_streams.proofs.Answers.{answer-by, byTests}
 use Rattle.step_streams.proofs.Waiting.{ready, running-too, message, write-waits, no-write-waits}
-use Rattle.step_switch_write.specs.Asks.{AtStream, WriteAt, CanWrite}
-use Rattle.step_switch_write.specs.Does.{judged}
-use Rattle.step_switch_write.specs.Handled.{storeHandled}
+use Rattle.step_switch_row.specs.Asks.{AtStream, WriteAt, CanWrite}
+use Rattle.step_switch_row.specs.Does.{judged}
+use Rattle.step_switch_row.specs.Handled.{storeHandled}
 
 module _ {count n : ℕ} (k : IsNode count n) (claims : Claims) where
   below : n - 1 < count

@@ -2,9 +2,9 @@
 use mathlib.Core.Path.{sym, _∙_}
 use borrow.Author.Needs.{needs}
 use Rattle.step_streams.proofs.Waiting.{not-write}
-use Rattle.step_switch_write.proofs.Writing.{write-at, write-runs, no-write}
-use Rattle.step_switch_write.proofs.handle_write_code.Statement.{statement}
-use Rattle.step_switch_write.proofs.handle_write_code.Tie as tie
+use Rattle.step_switch_row.proofs.Writing.{write-at, write-runs, no-write}
+use Rattle.step_switch_row.proofs.handle_write_code.Statement.{statement}
+use Rattle.step_switch_row.proofs.handle_write_code.Tie as tie
 
 waits-requires : tie.Need-waits-requires
 waits-requires c κs = c .pre .ordered

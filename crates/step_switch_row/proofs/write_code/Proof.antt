@@ -7,10 +7,10 @@ use borrow.Author.Tests.{lt-ltb, le-ltb}
 use borrow.Author.Needs.{needs}
 use Rattle.rules.specs.Limits.{historyLength}
 use Rattle.step_parts.specs.declared.Request.{Request}
-use Rattle.step_switch_write.specs.Does.{judged}
-use Rattle.step_switch_write.proofs.Writing.{has-head, headId, write-answer}
-use Rattle.step_switch_write.proofs.write_code.Statement.{statement}
-use Rattle.step_switch_write.proofs.write_code.Tie as tie
+use Rattle.step_switch_row.specs.Does.{judged}
+use Rattle.step_switch_row.proofs.Writing.{has-head, headId, write-answer}
+use Rattle.step_switch_row.proofs.write_code.Statement.{statement}
+use Rattle.step_switch_row.proofs.write_code.Tie as tie
 
 -- whether the write is accepted
 judges : (c : tie.After-accepts) (b : Bool) → c .accepts .result ≡ b → let start = c .before .before .before in judged (start .args .count) (start .args .node) (headId (start .args .stream)) (start .args .claims) ≡ b

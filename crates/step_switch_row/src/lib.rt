@@ -1,15 +1,17 @@
-// Handle write, kind 11: its answer code, which only reads, and what is done where the code is 0.
+// The switch's steps at one stream: Connect and Handle write, kinds 8 and 11. A step is two functions: one gives its answer code and only reads, the
+// other does what is to be done where the code is 0.
 ghost use mathlib.Core.Path.{_≡_};
 ghost use mathlib.Core.Bool.{true};
 ghost use lib.Dec.{leb};
 ghost use Rattle.rules.specs.Part.{decide};
-ghost use Rattle.rules.specs.Rules.{handleWriteRule};
+ghost use Rattle.rules.specs.Rules.{connectRule, handleWriteRule};
 ghost use Rattle.step_parts.specs.declared.Message.the-variants as M;
-ghost use Rattle.step_state.specs.Reads.{answerOf, servedOf};
+ghost use Rattle.step_state.specs.Reads.{answerOf, linkedOf, servedOf};
+ghost use Rattle.step_state.specs.Stores.{storeOpen};
 ghost use Rattle.step_streams.specs.Asks.{IsNode};
-ghost use Rattle.step_switch_write.specs.Asks.{AtStream, WriteAt, CanWrite};
-ghost use Rattle.step_switch_write.specs.Does.{judged};
-ghost use Rattle.step_switch_write.specs.Handled.{storeHandled};
+ghost use Rattle.step_switch_row.specs.Asks.{AtStream, WriteAt, CanWrite};
+ghost use Rattle.step_switch_row.specs.Does.{judged};
+ghost use Rattle.step_switch_row.specs.Handled.{storeHandled};
 use step_parts::ElectionId;
 use step_parts::Message;
 use step_parts::Response;
@@ -17,6 +19,28 @@ use step_parts::Status;
 use step_parts::Term;
 use step_state::Claims;
 use step_state::Stream;
+
+// 8 Connect: its answer.
+pub fn connect_code(running: bool, stream: Stream) -> u8
+    ensures { λ r. ⌜ r ≡ answerOf (decide connectRule (linkedOf running stream)) ⌝ }
+{
+    if running {
+        if stream.opened {
+            return step_parts::NOT_ALLOWED;
+        }
+        return step_parts::DONE;
+    }
+    step_parts::NOT_ALLOWED
+}
+
+// 8 Connect: the stream is opened.
+pub fn connect(stream: Stream) -> Stream
+    ensures { λ r. ⌜ r ≡ storeOpen true stream ⌝ }
+{
+    let mut next = stream;
+    next.opened = true;
+    next
+}
 
 // A write that was handled. `term` is that of the request where it was accepted, and 0 else.
 pub struct Handled {
