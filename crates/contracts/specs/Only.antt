@@ -21,7 +21,7 @@ use Rattle.wire_bytes.specs.Bytes as Packed
 use Rattle.wire_text.specs.Printout.{printout}
 use Rattle.wire_frames.specs.Frames.{frameAt, looksStreamed}
 use Rattle.wire_frames.specs.declared.Frame.{Frame}
-use Rattle.wire_frames_bytes.specs.Told.{told}
+use Rattle.wire_frames_bytes.specs.Reply.{frameReply}
 use Rattle.wire_frames_text.specs.Shown.{frameText, endText}
 use Rattle.contracts.specs.Contract.{Gives, Only, only}
 use Rattle.contracts.specs.Calls.{FreshMay, StepMay, OpenStreamsMay, InRangeMay, IndependentMay, RunMay, HostRunMay, TranscriptMay, CompareMay, SameMergeMay, HostSameMergeMay, ReportMay, AnswerMay, ReadMay, ReadIntoMay, HostReadArbitrationMay, PrintoutMay, ReadFrameMay, LooksStreamedMay, FrameIntoMay, HostReadFrameMay, ShownMay, EndedMay}
@@ -104,10 +104,10 @@ only-read-frame = only _ _ _ _ _ (λ κs a r e m. (m, refl))
 pub only-looks-streamed : Only LooksStreamedMay looksStreamed (λ g. tt)
 only-looks-streamed = only _ _ _ _ _ (λ κs a r e m. (m, refl))
 
-pub only-frame-into : Only FrameIntoMay (λ g. told (g .0) (g .1) (g .2) .returned) (λ g. told (g .0) (g .1) (g .2) .out)
+pub only-frame-into : Only FrameIntoMay (λ g. frameReply (g .0) (g .1) (g .2) .returned) (λ g. frameReply (g .0) (g .1) (g .2) .out)
 only-frame-into = only _ _ _ _ _ (λ κs a r e m. m)
 
-pub only-host-read-frame : Only HostReadFrameMay (λ g. told (g .0) (g .1) (g .2) .returned) (λ g. told (g .0) (g .1) (g .2) .out)
+pub only-host-read-frame : Only HostReadFrameMay (λ g. frameReply (g .0) (g .1) (g .2) .returned) (λ g. frameReply (g .0) (g .1) (g .2) .out)
 only-host-read-frame = only _ _ _ _ _ (λ κs a r e m. m)
 
 pub only-shown : (g : ℕ × ℕ × Frame × List ℕ) → Puts ShownMay g (frameText (g .0) (g .1) (g .2)) (g .3)

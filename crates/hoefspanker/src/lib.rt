@@ -3,7 +3,7 @@ ghost use mathlib.Core.Path.{_≡_};
 ghost use Rattle.wire_bytes.specs.Bytes.{reported};
 ghost use Rattle.run.specs.Ran.{ran};
 ghost use Rattle.merge_call.specs.Reply.{reply};
-ghost use Rattle.wire_frames_bytes.specs.Told.{told as toldFrame};
+ghost use Rattle.wire_frames_bytes.specs.Reply.{frameReply};
 
 // Runs a list from a fresh state: an answer for each record, the history behind the answers, and the bytes after it stay.
 // Returns 256 plus the number of writes. A refused list returns why, and leaves every byte of the buffer.
@@ -39,8 +39,8 @@ pub extern "C" fn hoefspanker_read_arbitration(message: &[u8], fields: &mut [u8]
 // bytes after them stay. Returns 256 plus the alternative that it carries, or why the frame or the buffer is refused, and then leaves every byte of the buffer.
 #[no_mangle]
 pub extern "C" fn hoefspanker_read_frame(capture: &[u8], offset: usize, frame: &mut [u8]) -> u32
-    ensures { λ r. ⌜ (r ≡ toldFrame (now (capture .entry)) offset (now (frame .entry)) .returned)
-        × (now (frame .exit) ≡ toldFrame (now (capture .entry)) offset (now (frame .entry)) .out) ⌝ }
+    ensures { λ r. ⌜ (r ≡ frameReply (now (capture .entry)) offset (now (frame .entry)) .returned)
+        × (now (frame .exit) ≡ frameReply (now (capture .entry)) offset (now (frame .entry)) .out) ⌝ }
 {
     wire_frames_bytes::frame_into(capture, offset, frame)
 }

@@ -1,10 +1,10 @@
--- Believed: Words, Answer, Told.
--- Laws: Showing, Rows, Promise, Lines, Telling.
+-- Believed: Words, Answer, Means.
+-- Laws: Showing, Rows, Promise, Lines, Meanings.
 pub mod Words
 pub mod Answer
 pub mod Showing
 pub mod Rows
 pub mod Promise
-pub mod Told
+pub mod Means
 pub mod Lines
-pub mod Telling
+pub mod Meanings

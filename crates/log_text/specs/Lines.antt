@@ -12,7 +12,7 @@ use Rattle.any_text.specs.Digits.{Digits, end, next, only-digits}
 use Rattle.any_text.specs.Lines.{newline}
 use Rattle.any_text.specs.Line.{spaced, line}
 use Rattle.log_read.specs.Text.{isNewline, cut, pieces, lines}
-use Rattle.log_text.specs.Told.{Says}
+use Rattle.log_text.specs.Means.{Says}
 
 -- ---- no newline
 

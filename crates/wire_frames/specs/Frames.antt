@@ -51,13 +51,13 @@ abbrev pub refused : ℕ → Frame
 refused code = record { code = code; kind = 0; size = 0; fields = refusedRaw 0 }
 
 -- Kind 0 is a message that carries nothing, and any other the alternative's field number. The fields are those of the arbitration message, if it carries one.
-abbrev pub told : ℕ → Carried → Frame
-told size nothing = record { code = 0; kind = 0; size = size; fields = refusedRaw 0 }
-told size (arbitration u) = record { code = 0; kind = 1; size = size; fields = seen u }
-told size (other k) = record { code = 0; kind = k; size = size; fields = refusedRaw 0 }
+abbrev pub frameWith : ℕ → Carried → Frame
+frameWith size nothing = record { code = 0; kind = 0; size = size; fields = refusedRaw 0 }
+frameWith size (arbitration u) = record { code = 0; kind = 1; size = size; fields = seen u }
+frameWith size (other k) = record { code = 0; kind = k; size = size; fields = refusedRaw 0 }
 
 abbrev pub messageOf : ℕ → Reading Carried → Frame
-messageOf size (whole c) = told size c
+messageOf size (whole c) = frameWith size c
 messageOf size (broken why) = refused (codeOf why)
 
 abbrev pub frameOf : Framed → Frame

@@ -22,22 +22,22 @@ use Rattle.wire_arbitration.specs.Raw.{messageOnto}
 use Rattle.wire_arbitration.specs.Seeing.{sees-onto}
 use Rattle.wire_arbitration.specs.declared.Raw.{Raw}
 use Rattle.wire_frames.specs.Stream.{Carried, nothing, arbitration, other, known, took, carried}
-use Rattle.wire_frames.specs.Frames.{refused, told, messageOf}
+use Rattle.wire_frames.specs.Frames.{refused, frameWith, messageOf}
 use Rattle.wire_frames.specs.declared.Frame.{Frame}
 
 -- What a field makes of what was carried, as the code has both.
 abbrev pub Takes : Field → Frame → Frame → Type 0
-Takes f before after = (c : Carried) → before ≡ told (before .size) c → after ≡ messageOf (before .size) (took f c)
+Takes f before after = (c : Carried) → before ≡ frameWith (before .size) c → after ≡ messageOf (before .size) (took f c)
 
-told-code : (size : ℕ) (c : Carried) → told size c .code ≡ 0
-told-code size nothing = refl
-told-code size (arbitration u) = refl
-told-code size (other k) = refl
+frame-with-code : (size : ℕ) (c : Carried) → frameWith size c .code ≡ 0
+frame-with-code size nothing = refl
+frame-with-code size (arbitration u) = refl
+frame-with-code size (other k) = refl
 
-told-fields : (size : ℕ) (c : Carried) → told size c .fields ≡ seen (known c)
-told-fields size nothing = refl
-told-fields size (arbitration u) = refl
-told-fields size (other k) = refl
+frame-with-fields : (size : ℕ) (c : Carried) → frameWith size c .fields ≡ seen (known c)
+frame-with-fields size nothing = refl
+frame-with-fields size (arbitration u) = refl
+frame-with-fields size (other k) = refl
 
 -- ---- the field at a place, by its kind and number
 
@@ -72,10 +72,10 @@ module _ (l : List ℕ) (f : Placed.Field) (before : Frame) where
       took-one c = rw stands (simp (eq-eqb (f .number) 1 one))
 
       -- What was read is what the message says, on top of what was carried.
-      read-so : (c : Carried) → before ≡ told (before .size) c → r ≡ rawOf (message Update.took (known c) (heldBy l f))
+      read-so : (c : Carried) → before ≡ frameWith (before .size) c → r ≡ rawOf (message Update.took (known c) (heldBy l f))
       read-so c e =
           read
-          ∙ ap (λ (b : Raw). settled (messageOnto b (heldBy l f))) (ap (λ (b : Frame). b .fields) e ∙ told-fields (before .size) c)
+          ∙ ap (λ (b : Raw). settled (messageOnto b (heldBy l f))) (ap (λ (b : Frame). b .fields) e ∙ frame-with-fields (before .size) c)
           ∙ ap settled (sees-onto (known c) (heldBy l f))
 
       pub takes-arbitration : r .code ≡ 0 → Takes (fieldOf l f) before (record { code = 0; kind = 1; size = before .size; fields = r })
@@ -97,16 +97,16 @@ module _ (l : List ℕ) (f : Placed.Field) (before : Frame) where
 -- The fields before the place have given what is known.
 pub record Carrying (l : List ℕ) (size : ℕ) (f : Frame) (at : ℕ) : Type 0 where
   pub c : Carried
-  pub shows : f ≡ told size c
+  pub shows : f ≡ frameWith size c
   pub walks : Walking took l nothing c at
 
-told-size : (size : ℕ) (c : Carried) → told size c .size ≡ size
-told-size size nothing = refl
-told-size size (arbitration u) = refl
-told-size size (other k) = refl
+frame-with-size : (size : ℕ) (c : Carried) → frameWith size c .size ≡ size
+frame-with-size size nothing = refl
+frame-with-size size (arbitration u) = refl
+frame-with-size size (other k) = refl
 
 module _ (l : List ℕ) (size : ℕ) where
-  pub carrying-starts : Carrying l size (told size nothing) 0
+  pub carrying-starts : Carrying l size (frameWith size nothing) 0
   carrying-starts = record { c = nothing; shows = refl; walks = walking-starts took l nothing }
 
   module _ {f : Frame} {at : ℕ} (w : Carrying l size f at) where
@@ -121,10 +121,10 @@ module _ (l : List ℕ) (size : ℕ) where
 
       module _ (found : FoundField l at r) (g : Frame) (takes : Takes (fieldOf l r) f g) where
         same-size : f .size ≡ size
-        same-size = ap (λ (x : Frame). x .size) (w .shows) ∙ told-size size (w .c)
+        same-size = ap (λ (x : Frame). x .size) (w .shows) ∙ frame-with-size size (w .c)
 
         given : g ≡ messageOf size (took (fieldOf l r) (w .c))
-        given = takes (w .c) (w .shows ∙ ap (λ (k : ℕ). told k (w .c)) (sym same-size)) ∙ ap (λ (k : ℕ). messageOf k (took (fieldOf l r) (w .c))) same-size
+        given = takes (w .c) (w .shows ∙ ap (λ (k : ℕ). frameWith k (w .c)) (sym same-size)) ∙ ap (λ (k : ℕ). messageOf k (took (fieldOf l r) (w .c))) same-size
 
         pub carrying-on : g .code ≡ 0 → Carrying l size g (r .next)
         carrying-on zero = go (took (fieldOf l r) (w .c)) refl
@@ -138,5 +138,5 @@ module _ (l : List ℕ) (size : ℕ) where
         carrying-breaks some = go (took (fieldOf l r) (w .c)) refl
           where
             go : (s : Reading Carried) → took (fieldOf l r) (w .c) ≡ s → g ≡ messageOf size (message took nothing l)
-            go (whole d) e = absurd (some (ap (λ (x : Frame). x .code) (given ∙ ap (messageOf size) e) ∙ told-code size d))
+            go (whole d) e = absurd (some (ap (λ (x : Frame). x .code) (given ∙ ap (messageOf size) e) ∙ frame-with-code size d))
             go (broken why) e = given ∙ ap (messageOf size) (e ∙ sym (walking-breaks took l nothing (w .walks) more r found why e))

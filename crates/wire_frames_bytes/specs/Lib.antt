@@ -1,4 +1,4 @@
--- Believed: Told.
--- Laws: Telling.
-pub mod Told
-pub mod Telling
+-- Believed: Reply.
+-- Laws: Replies.
+pub mod Reply
+pub mod Replies

@@ -5,7 +5,7 @@ use native.Mathlib.Omega.{arith}
 use borrow.Author.Needs.{needs}
 use Rattle.any_text.specs.Puts.{put-then, room-then}
 use Rattle.wire_bytes.specs.Reporting.{field-bytes-length}
-use Rattle.wire_frames_bytes.specs.Telling.{told-length, told-put, tells-nothing, next-inside, tells-refusal, tells-short, tells-frame}
+use Rattle.wire_frames_bytes.specs.Replies.{reply-length, reply-put, tells-nothing, next-inside, tells-refusal, tells-short, tells-frame}
 use Rattle.wire_frames_bytes.proofs.frame_into.Statement.{statement}
 use Rattle.wire_frames_bytes.proofs.frame_into.Tie as tie
 
@@ -49,7 +49,7 @@ put-fields-requires c κs = let n = field-bytes-length (c .before .before .befor
 put-little-requires : tie.Need-put-little-requires
 put-little-requires c κs =
     let a = c .before .before .before .before .before .before .before .before .before .before .before .before .before .before .before .args in
-    let n = told-length (a .at) (c .before .before .before .before .before .before .before .before .before .before .read-frame .result) in
+    let n = reply-length (a .at) (c .before .before .before .before .before .before .before .before .before .before .read-frame .result) in
     room-then (c .before .before .before .put-fields .ensures) (record { enough = omega arith })
 
 cast-result-3 : tie.Need-cast-result-3
@@ -66,7 +66,7 @@ returns-4 c =
     let a = c .before .before .before .before .before .before .before .before .before .before .before .before .before .before .before .before .before .before .before .args in
     let read = c .before .before .before .before .before .before .before .before .before .before .before .before .before .before .read-frame in
     let all = tells-frame (a .capture .now) (a .at) (a .out .now) (read .result) (read .ensures) (omega arith) (omega arith) in
-    (all .0, told-put (a .at) (read .result) (a .out .now) _ _ (omega arith) (put-then (c .before .before .before .before .before .before .before .put-fields .ensures) (c .before .before .before .put-little .ensures)) ∙ all .1)
+    (all .0, reply-put (a .at) (read .result) (a .out .now) _ _ (omega arith) (put-then (c .before .before .before .before .before .before .before .put-fields .ensures) (c .before .before .before .put-little .ensures)) ∙ all .1)
 
 pub frame-into-spec : {M : Type 1} → statement M
 frame-into-spec =

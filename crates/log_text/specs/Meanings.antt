@@ -26,7 +26,7 @@ use Rattle.log_doubts.specs.Doubts.{doubtAt, doubts}
 use Rattle.log_doubts.specs.Inside.{Inside, pairs-inside}
 use Rattle.log_text.specs.Words as W
 use Rattle.log_text.specs.Answer.{outcome, pairText, shown, mostShown, doubtsText, logText, answer}
-use Rattle.log_text.specs.Told.{Says, writesOf, OtherWrites, DiffersMeans, AgainstMeans}
+use Rattle.log_text.specs.Means.{Says, writesOf, OtherWrites, DiffersMeans, AgainstMeans}
 use Rattle.log_text.specs.Lines.{plain, says-line, says-none}
 
 -- ---- a word that begins no other line
@@ -150,10 +150,10 @@ module _ (C : Type 0) (other : List ℕ) (apart : Apart other) where
         go [] a t = one-line R.same [] refl (apart .same) t
         go (p ∷ ps) a t = in-shown got stands mostShown (p ∷ ps) a t
 
-  told : (text : List ℕ) → OnDiffers (readText text .nodes) (readText text .bound) (readText text .rows) → OnAgainst (readText text .nodes) (readText text .bound) (readText text .rows)
+  meant : (text : List ℕ) → OnDiffers (readText text .nodes) (readText text .bound) (readText text .rows) → OnAgainst (readText text .nodes) (readText text .bound) (readText text .rows)
       → Says other (answer text) → C
   unfolding answer all
-  told text got stands s = go (leb (length text) longestText) (eqb (readText text .refused) 0) s
+  meant text got stands s = go (leb (length text) longestText) (eqb (readText text .refused) 0) s
     where
       go : (a b : Bool)
           → Says other (cond a (cond b (logText (readText text .nodes) (readText text .bound) (readText text .rows)) (line W.refusedLine (readText text .refused ∷ []))) (line W.refusedLong [])) → C
@@ -171,7 +171,7 @@ writes-merged : (count : ℕ) (rows : List Row) → writesOf count (merged rows)
 writes-merged count rows = ap (λ (es : List Event). run step (fresh count) es .state .history) (steps-merged rows)
 
 pub differs-means : DiffersMeans
-differs-means text s t = told (OtherWrites (readText text)) R.differs apart-differs text exchange (λ p i e ns f. absurd (let z : _≡_ {A = ℕ} 97 100 = letter 0 f in omega arith)) s
+differs-means text s t = meant (OtherWrites (readText text)) R.differs apart-differs text exchange (λ p i e ns f. absurd (let z : _≡_ {A = ℕ} 97 100 = letter 0 f in omega arith)) s
   where
     exchange : OnDiffers (OtherWrites (readText text)) R.differs apart-differs (readText text .nodes) (readText text .bound) (readText text .rows)
     exchange p i up e d ns f =
@@ -200,6 +200,6 @@ timely-at may (r ∷ rows) t (suc x) zero h k = absurd (omega arith)
 timely-at may (r ∷ rows) t (suc x) (suc y) h k = timely-at may rows (t .1) x y (omega arith) (omega arith)
 
 pub against-means : AgainstMeans
-against-means text s t = told ⊥ against apart-against text
+against-means text s t = meant ⊥ against apart-against text
     (λ p i up e d ns f. absurd (let z : _≡_ {A = ℕ} 100 97 = letter 0 f in omega arith))
     (λ p i e ns f. rw e at (timely-at (clocks (readText text .bound)) (readText text .rows) t (p .x) (p .y) (i .0) (i .1))) s

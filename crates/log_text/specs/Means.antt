@@ -1,4 +1,4 @@
--- What a line of the answer says of the merge at hand. `Telling` proves it. Assumes nothing.
+-- What a line of the answer says of the merge at hand. `Meanings` proves it. Assumes nothing.
 use mathlib.Core.Path.{_≡_}
 use mathlib.Core.Logic.{_≢_}
 use mathlib.Core.List.{List, []}
