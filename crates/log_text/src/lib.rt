@@ -70,17 +70,17 @@ fn put_doubts(
     nodes: u8,
     bound: u64,
     found: &[usize],
-    count: usize,
+    pairs: usize,
     mine: &[u8],
     writes: u32,
 ) -> usize
-    requires { ⌜ Known nodes (now rows) n × AtHand nodes (now rows) n (now mine) writes × (longest ≤ length (now buf)) × Say (take mostPairs (doubts nodes bound (rowsIn (now rows) n))) (now found) count ⌝ }
+    requires { ⌜ Known nodes (now rows) n × AtHand nodes (now rows) n (now mine) writes × (longest ≤ length (now buf)) × Say (take mostPairs (doubts nodes bound (rowsIn (now rows) n))) (now found) pairs ⌝ }
     ensures { λ r. ⌜ Put (now (buf .entry)) 0 (shown (pairText nodes bound (rowsIn (now (rows .entry)) n)) mostShown (take mostPairs (doubts nodes bound (rowsIn (now (rows .entry)) n))))
         (now (buf .exit)) r × (r ≤ longest) ⌝ }
 {
     let mut at: usize = 0;
     let mut i: usize = 0;
-    while i < count {
+    while i < pairs {
         if i == MOST_SHOWN {
             return any_text::put_word(buf, at, b"more\n");
         }
@@ -100,13 +100,13 @@ fn put_log(buf: &mut [u8], rows: &[u64], n: usize, nodes: u8, bound: u64) -> usi
     ensures { λ r. ⌜ Put (now (buf .entry)) 0 (logText nodes bound (rowsIn (now (rows .entry)) n)) (now (buf .exit)) r × (r ≤ longest) ⌝ }
 {
     let mut found = [0usize; log_doubts::FOUND];
-    let count = log_doubts::first_pairs(rows, n, nodes, bound, &mut found);
-    if count == 0 {
+    let pairs = log_doubts::first_pairs(rows, n, nodes, bound, &mut found);
+    if pairs == 0 {
         return any_text::put_word(buf, 0, b"same\n");
     }
     let mut mine = [0u8; run::LONGEST_OUT];
     let writes = log_exchange::run_at_hand(rows, n, nodes, &mut mine);
-    put_doubts(buf, rows, n, nodes, bound, &found, count, &mine, writes)
+    put_doubts(buf, rows, n, nodes, bound, &found, pairs, &mine, writes)
 }
 
 // Reads the text of a merged log and puts what the program prints at the front of the buffer. Returns how many bytes that is.

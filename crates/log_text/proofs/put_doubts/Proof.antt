@@ -15,10 +15,10 @@ use Rattle.log_text.proofs.put_doubts.Statement.{statement}
 use Rattle.log_text.proofs.put_doubts.Tie as tie
 
 abbrev Inv-loop : tie.InvT-loop
-Inv-loop buf₀ rows n nodes bound found count mine writes at₀ i₀ t11 buf at i = Showing (pairText nodes bound (rowsIn rows n)) (take mostPairs (doubts nodes bound (rowsIn rows n))) buf₀ buf at i
+Inv-loop buf₀ rows n nodes bound found pairs mine writes at₀ i₀ t11 buf at i = Showing (pairText nodes bound (rowsIn rows n)) (take mostPairs (doubts nodes bound (rowsIn rows n))) buf₀ buf at i
 
 abbrev μ-loop : tie.MeasureT-loop
-μ-loop buf₀ rows n nodes bound found count mine writes at₀ i₀ t11 buf at i = count - i
+μ-loop buf₀ rows n nodes bound found pairs mine writes at₀ i₀ t11 buf at i = pairs - i
 
 loop-holds : tie.Need-loop-holds Inv-loop μ-loop
 loop-holds c = showing-starts _
