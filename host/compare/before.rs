@@ -1,7 +1,7 @@
 //! What must be known of the state before a step to tell what the step met.
 
 use reference::kinds::*;
-use reference::state::{row, Request};
+use reference::state::{row, Request, Response, Status};
 use reference::switch::elect;
 use reference::State;
 
@@ -14,6 +14,9 @@ pub struct Before {
     events_full: bool,
     responses_full: bool,
     history_full: bool,
+    /// The head response says that nobody is master.
+    hears_not_found: bool,
+    says_master: bool,
     /// The head request is an update with an id that another node holds.
     collides: bool,
     /// The head request is a write that is accepted.
@@ -38,6 +41,8 @@ impl Before {
             events_full: state.controllers.iter().any(|controller| controller.events.is_full()),
             responses_full: has_node && state.streams[row(node)].responses.is_full(),
             history_full: state.history.is_full(),
+            hears_not_found: has_node && hears_not_found(state, node),
+            says_master: has_node && state.controllers[row(node)].device_says_master,
             collides: false,
             accepted: false,
             accepted_but_for_term: false,
@@ -71,6 +76,14 @@ impl Before {
             CLOSE => {
                 reached.mark(Mark::ResponsesFull, full);
                 reached.mark(Mark::MasterClosed, done && self.master == self.node);
+                let nobody = self.master != 0 && elect(&after.ids).0 == 0;
+                let told = after.streams.iter().any(|stream| stream.open);
+                reached.mark(Mark::NobodyMaster, nobody && told);
+            }
+            RECEIVE_UPDATE => {
+                let heard = done && self.hears_not_found;
+                reached.mark(Mark::NotFoundHeard, heard);
+                reached.mark(Mark::NotFoundTurnsOff, heard && self.says_master);
             }
             HANDLE_UPDATE => self.mark_update(reached, answer, elect(&after.ids).0),
             HANDLE_WRITE => self.mark_write(reached, answer),
@@ -101,4 +114,9 @@ impl Before {
         reached.mark(Mark::HistoryFullResponses, answer == 6 && self.responses_full);
         reached.mark(Mark::HistoryFullDeniedResponses, answer == 7 && self.history_full);
     }
+}
+
+fn hears_not_found(state: &State, node: u8) -> bool {
+    let head = state.streams[row(node)].responses.front();
+    matches!(head, Some(Response::Update(Status::NotFound, _)))
 }

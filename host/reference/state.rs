@@ -51,6 +51,7 @@ pub enum Response {
 pub enum Status {
     Ok,
     AlreadyExists,
+    NotFound,
     PermissionDenied,
 }
 

@@ -140,8 +140,11 @@ impl State<'_> {
         for told in rows {
             let stream = &mut self.streams[told];
             if stream.open {
-                let is_master = told + 1 == usize::from(master);
-                let status = if is_master { Status::Ok } else { Status::AlreadyExists };
+                let status = match master {
+                    NO_NODE => Status::NotFound,
+                    node if row(node) == told => Status::Ok,
+                    _ => Status::AlreadyExists,
+                };
                 stream.responses.push(Response::Update(status, largest));
             }
         }

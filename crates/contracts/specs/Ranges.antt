@@ -1,5 +1,5 @@
 -- States that tell wrong range tests apart: the only answer of `in_range` to them. Assumes nothing.
-use mathlib.Core.Path.{refl, _∙_}
+use mathlib.Core.Path.{_≡_, refl, _∙_}
 use mathlib.Core.Bool.{true, false}
 use mathlib.Core.List.{[], _∷_}
 use lib.Dec.{T}
@@ -8,7 +8,12 @@ use Rattle.rules.specs.State as S
 use Rattle.rules.specs.Range.{inRange}
 use Rattle.rules.specs.Parts.{onDevice, tellPart}
 use Rattle.rules.specs.Step.{fresh}
+use Rattle.rules_laws.specs.All.{All}
+use Rattle.rules_laws.specs.Lists.{all-each}
+use Rattle.rules_laws.specs.Tests.{is-not, is-yes, is-all}
+use Rattle.rules_cases.specs.Outside.{inside, outside, are-inside}
 use Rattle.step_state.specs.Hold.{represent, packStream}
+use Rattle.step_state.specs.Tidy.{stateFits}
 use Rattle.step_state.specs.declared.State.{State}
 use Rattle.step_bridge.specs.Passes.{fits-represent}
 use Rattle.contracts.specs.Contract.{Gives}
@@ -19,6 +24,23 @@ use Rattle.contracts.specs.Only.{only-in-range}
 -- Every state in range, written into structs.
 pub in-range : (s : S.State) → T (inRange s) → Gives InRangeMay (represent s) true tt
 in-range s fits r h m = (only-in-range (represent s) r h m .0 ∙ fits-represent s fits, refl)
+
+-- The states of the two tables, by the response that waits in them.
+listed-in : (s : S.State) → inRange s ≡ true → Gives InRangeMay (represent s) true tt
+listed-in s e = in-range s (is-yes (inRange s) .from e)
+
+pub are-in-range : All (λ s. Gives InRangeMay (represent s) true tt) inside
+are-in-range = all-each listed-in inside are-inside
+
+listed-out : (s : S.State) → stateFits (represent s) ≡ false → Gives InRangeMay (represent s) false tt
+listed-out s e r h m = (only-in-range (represent s) r h m .0 ∙ e, refl)
+
+fit-not : All (λ s. stateFits (represent s) ≡ false) outside
+unfolding states
+fit-not = is-all (λ s. is-not (stateFits (represent s))) outside .to tt
+
+pub are-out-of-range : All (λ s. Gives InRangeMay (represent s) false tt) outside
+are-out-of-range = all-each listed-out outside fit-not
 
 -- Two nodes; node 1's stream is closed, and the switch holds term 1 of it.
 abbrev termKept : State

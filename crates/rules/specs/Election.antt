@@ -4,7 +4,7 @@ use mathlib.Core.List.{List, [], _∷_}
 use Prim.Native.Nat.{ℕ, suc, _+_, _-_, max}
 use lib.ListN.{set}
 use lib.Dec.{eqb}
-use Rattle.rules.specs.State.{Status, ok, alreadyExists, Response, update}
+use Rattle.rules.specs.State.{Status, ok, alreadyExists, notFound, Response, update}
 use Rattle.rules.specs.Queues.{push, room, has, before}
 
 -- The largest id, 0 if there is none.
@@ -20,9 +20,9 @@ masterOf ids = cond (eqb (largest ids) 0) 0 (before (largest ids) ids + 1)
 unfoldable pub taken : ℕ → ℕ → List ℕ → Bool
 taken n id ids = has id (set ids (n - 1) 0)
 
--- The status of an update response to node n, by the ids that are held.
+-- The status of an update response to node n, by the ids that are held: without a master, NotFound to all.
 unfoldable pub statusFor : List ℕ → ℕ → Status
-statusFor ids n = cond (eqb (masterOf ids) n) ok alreadyExists
+statusFor ids n = cond (eqb (masterOf ids) 0) notFound (cond (eqb (masterOf ids) n) ok alreadyExists)
 
 -- What node n is told.
 unfoldable pub news : List ℕ → ℕ → Response

@@ -5,7 +5,7 @@ use Prim.Native.Nat.{ℕ, zero, suc}
 use lib.ListN.{length, getD}
 use lib.Dec.{leb, eqb}
 use Rattle.rules.specs.Limits.{mostNodes, topTerm, topId, queueLength, historyLength}
-use Rattle.rules.specs.State.{Mastership, Message, update, write, Status, ok, alreadyExists, permissionDenied, Request, Response, Write, Desk, Board, Core, State}
+use Rattle.rules.specs.State.{Mastership, Message, update, write, Status, ok, alreadyExists, notFound, permissionDenied, Request, Response, Write, Desk, Board, Core, State}
 use Rattle.rules.specs.Queues.{has, empty}
 
 -- ---- of any list
@@ -65,9 +65,11 @@ requestFits r = within 1 topId (r .id) && within 1 topTerm (r .term)
 unfoldable pub answerFits : Message → Status → ℕ → Bool
 answerFits update ok id = leb id topId
 answerFits update alreadyExists id = leb id topId
+answerFits update notFound id = leb id topId
 answerFits update permissionDenied id = false
 answerFits write ok id = eqb id 0
 answerFits write alreadyExists id = false
+answerFits write notFound id = false
 answerFits write permissionDenied id = eqb id 0
 
 unfoldable pub responseFits : Response → Bool

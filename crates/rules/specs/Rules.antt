@@ -5,7 +5,7 @@ use Prim.Native.Nat.{ℕ, _+_, _-_}
 use lib.ListN.{getD, set}
 use lib.Dec.{leb, ltb, eqb}
 use Rattle.rules.specs.Limits.{topTerm, historyLength}
-use Rattle.rules.specs.State.{Mastership, Message, update, write, Status, ok, alreadyExists, permissionDenied, Request, Response, Desk, Board, blank}
+use Rattle.rules.specs.State.{Mastership, Message, update, write, Status, ok, alreadyExists, notFound, permissionDenied, Request, Response, Desk, Board, blank}
 use Rattle.rules.specs.Queues.{push, first, rest, empty, room, roomAll, remove}
 use Rattle.rules.specs.Ids.{electionId, termOf, named, idFor}
 use Rattle.rules.specs.Part.{Rule, always}
@@ -101,6 +101,7 @@ isWrite write = true
 unfoldable pub isOk : Status → Bool
 isOk ok = true
 isOk alreadyExists = false
+isOk notFound = false
 isOk permissionDenied = false
 
 -- What stands for a head where a queue has none: no rule that allows its step looks at it.

@@ -15,7 +15,7 @@ pub data Message : Type 0 where
   update write : Message
 
 pub data Status : Type 0 where
-  ok alreadyExists permissionDenied : Status
+  ok alreadyExists notFound permissionDenied : Status
 
 pub record Request : Type 0 where
   pub message : Message

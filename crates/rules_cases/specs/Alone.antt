@@ -6,7 +6,7 @@ use lib.ListN.{replicate}
 use Rattle.rules.specs.State.{Mastership, Request, Response}
 use Rattle.rules.specs.Parts.{servicePart, learnPart, sendPart, receivePart, onDevice, linkPart, tellPart, servePart}
 use Rattle.rules.specs.Step.{Event, fresh}
-use Rattle.rules_cases.specs.Names.{Join, Leave, Learn, SendUpdate, ReceiveUpdate, SendWrite, HandleWrite, mastership, asksUpdate, asksWrite, isMaster, isNot, accepted, denied, by}
+use Rattle.rules_cases.specs.Names.{Join, Leave, Learn, SendUpdate, ReceiveUpdate, SendWrite, HandleWrite, mastership, asksUpdate, asksWrite, isMaster, isNot, isNone, accepted, denied, by}
 use Rattle.rules_cases.specs.Situation.{Claim, history, last, learned, says, responses, Situation}
 
 -- 1, 2: the service, and what waits for node 2.
@@ -83,6 +83,7 @@ alone =
     -- 5: the flag comes on; and it goes off by the status, the master, the id or the stream's term alone
     ∷ hears (mastership 1 1 []) 1 (isMaster 3) true
     ∷ hears (mastership 1 1 []) 1 (isNot 3) false
+    ∷ hears (mastership 1 1 []) 1 (isNone 3) false
     ∷ hears (mastership 1 2 (1 ∷ [])) 1 (isMaster 3) false
     ∷ hears (mastership 1 1 []) 1 (isMaster 4) false
     ∷ hears (mastership 1 1 []) 2 (isMaster 3) false

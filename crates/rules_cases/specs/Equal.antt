@@ -4,7 +4,7 @@ use mathlib.Core.Bool.{Bool, true, false, cond, _&&_}
 use mathlib.Core.List.{List, [], _∷_}
 use Prim.Native.Nat.{ℕ}
 use lib.Dec.{T, eqb, eqb→eq}
-use Rattle.rules.specs.State.{Mastership, Message, update, write, Status, ok, alreadyExists, permissionDenied, Request, Response, Write}
+use Rattle.rules.specs.State.{Mastership, Message, update, write, Status, ok, alreadyExists, notFound, permissionDenied, Request, Response, Write}
 use Rattle.rules_laws.specs.Tests.{_&_, as-is}
 
 pub record Equality (A : Type 0) : Type 0 where
@@ -72,15 +72,20 @@ message = coded number messageCode (λ k. cond (eqb k 0) update write) message-b
 abbrev pub statusCode : Status → ℕ
 statusCode ok = 0
 statusCode alreadyExists = 1
-statusCode permissionDenied = 2
+statusCode notFound = 2
+statusCode permissionDenied = 3
 
-pub status-back : (s : Status) → cond (eqb (statusCode s) 0) ok (cond (eqb (statusCode s) 1) alreadyExists permissionDenied) ≡ s
+abbrev pub statusOf : ℕ → Status
+statusOf k = cond (eqb k 0) ok (cond (eqb k 1) alreadyExists (cond (eqb k 2) notFound permissionDenied))
+
+pub status-back : (s : Status) → statusOf (statusCode s) ≡ s
 status-back ok = refl
 status-back alreadyExists = refl
+status-back notFound = refl
 status-back permissionDenied = refl
 
 abbrev pub status : Equality Status
-status = coded number statusCode (λ k. cond (eqb k 0) ok (cond (eqb k 1) alreadyExists permissionDenied)) status-back
+status = coded number statusCode statusOf status-back
 
 abbrev pub written : Equality Write
 written = coded (pair number number) (λ w. (w .node, w .term)) (λ c. record { node = c .0; term = c .1 }) (λ w. refl)

@@ -1,5 +1,5 @@
 -- Definitions: Names, Scope, Fresh, Alone, WhoIsTold.
--- Laws: Equal, Situation, Table.
+-- Laws: Equal, Situation, Table, Outside.
 pub mod Names
 pub mod Equal
 pub mod Situation
@@ -8,3 +8,4 @@ pub mod Fresh
 pub mod Alone
 pub mod WhoIsTold
 pub mod Table
+pub mod Outside

@@ -1,13 +1,13 @@
 -- Situations of telling: what each stream hears when a stream closes or an update is handled, and what a shutdown keeps. Assumes nothing.
 use mathlib.Core.Bool.{true, false}
-use mathlib.Core.List.{List, [], _∷_}
+use mathlib.Core.List.{List, [], _∷_, _++_}
 use Prim.Native.Nat.{ℕ}
 use lib.ListN.{replicate}
 use Rattle.rules.specs.State.{Response, State}
 use Rattle.rules.specs.Parts.{onDevice, linkPart, tellPart, servePart}
 use Rattle.rules.specs.Step.{Event, fresh}
-use Rattle.rules_cases.specs.Names.{Connect, Close, HandleUpdate, Shutdown, Startup, asksUpdate, isMaster, isNot, by}
-use Rattle.rules_cases.specs.Situation.{Claim, history, last, isOpen, requests, responses, id, Situation}
+use Rattle.rules_cases.specs.Names.{Join, Learn, SendUpdate, ReceiveUpdate, SendWrite, Connect, Close, HandleUpdate, Shutdown, Startup, asksUpdate, isMaster, isNot, isNone, by}
+use Rattle.rules_cases.specs.Situation.{Claim, history, last, says, isOpen, requests, responses, id, Situation}
 
 -- Three open streams: the ids of nodes 1 and 3, the id that node 3 asks for, and the responses of nodes 2 and 3.
 abbrev streams : ℕ → ℕ → ℕ → List Response → List Response → State
@@ -39,6 +39,25 @@ ownFull e i k asked answer = record { start = streams i k asked [] full; steps =
 abbrev gone : List Claim
 gone = isOpen 3 false ∷ id 3 0 ∷ requests 3 [] ∷ []
 
+-- From fresh: node 1 has heard that it is master and comes back without an id; node 2, the only one with an id, closes.
+abbrev lastIdLeaves : Situation
+lastIdLeaves = record {
+  start = fresh 2;
+  steps = Join 1 ∷ Join 2 ∷ Learn 1 ∷ Connect 1 ∷ SendUpdate 1 ∷ HandleUpdate 1 ∷ ReceiveUpdate 1 ∷ Close 1
+      ∷ Learn 2 ∷ Learn 2 ∷ Connect 2 ∷ SendUpdate 2 ∷ HandleUpdate 2 ∷ Connect 1 ∷ Close 2 ∷ [];
+  answers = replicate 15 0;
+  ends = says 1 true ∷ responses 1 (isNone 0 ∷ []) ∷ [];
+}
+
+-- Node 1 hears it: its flag goes off, and it may not write.
+abbrev hearsOfNobody : Situation
+hearsOfNobody = record {
+  start = fresh 2;
+  steps = lastIdLeaves .steps ++ (ReceiveUpdate 1 ∷ SendWrite 1 ∷ []);
+  answers = lastIdLeaves .answers ++ (0 ∷ 4 ∷ []);
+  ends = says 1 false ∷ responses 1 [] ∷ [];
+}
+
 -- The last accepted term and the history outlive the streams.
 abbrev restarted : Situation
 restarted = record {
@@ -59,9 +78,11 @@ whoIsTold =
     ∷ tells (HandleUpdate 3) 5 0 7 (isNot 7 ∷ []) (isNot 7 ∷ []) (isMaster 7 ∷ []) (id 3 7 ∷ [])
     -- 10: an id that another holds closes the stream, and its id leaves the election
     ∷ tells (HandleUpdate 3) 3 5 3 (isMaster 3 ∷ []) (isNot 3 ∷ []) [] gone
-    -- 9: the others are told where the master changes, with the largest id left, 0 if none
+    -- 9: the others are told where the master changes, with the largest id left; nobody is master where no id is left
     ∷ tells (Close 3) 3 5 4 (isMaster 3 ∷ []) (isNot 3 ∷ []) [] gone
-    ∷ tells (Close 3) 0 5 4 (isNot 0 ∷ []) (isNot 0 ∷ []) [] gone
+    ∷ tells (Close 3) 0 5 4 (isNone 0 ∷ []) (isNone 0 ∷ []) [] gone
+    ∷ lastIdLeaves
+    ∷ hearsOfNobody
     ∷ tells (Close 3) 5 3 4 [] [] [] gone
     -- 7: one full stream that would be told stops the step
     ∷ otherFull (Close 3) 3 5 4 7

@@ -6,7 +6,7 @@ use mathlib.Core.List.{List, [], _∷_}
 use Prim.Native.Nat.{ℕ, _≤_}
 use lib.ListN.{length, getD}
 use Rattle.rules.specs.Limits.{mostNodes, topTerm, topId, queueLength, historyLength}
-use Rattle.rules.specs.State.{Mastership, Message, update, write, Status, ok, alreadyExists, permissionDenied, Request, Response, Write, Desk, Board, Core, State, blank}
+use Rattle.rules.specs.State.{Mastership, Message, update, write, Status, ok, alreadyExists, notFound, permissionDenied, Request, Response, Write, Desk, Board, Core, State, blank}
 use Rattle.rules_laws.specs.All.{All}
 
 -- ---- of any list
@@ -67,9 +67,11 @@ pub record RequestFits (r : Request) : Type 0 where
 abbrev pub AnswerFits : Message → Status → ℕ → Type 0
 AnswerFits update ok id = id ≤ topId
 AnswerFits update alreadyExists id = id ≤ topId
+AnswerFits update notFound id = id ≤ topId
 AnswerFits update permissionDenied id = ⊥
 AnswerFits write ok id = id ≡ 0
 AnswerFits write alreadyExists id = ⊥
+AnswerFits write notFound id = ⊥
 AnswerFits write permissionDenied id = id ≡ 0
 
 abbrev pub ResponseFits : Response → Type 0

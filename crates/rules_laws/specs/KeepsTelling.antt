@@ -9,7 +9,7 @@ use lib.ListN.{length, getD, set, length-set}
 use lib.Seq.{getD-set-same, getD-set-other, set-getD}
 use lib.Dec.{T, eqb}
 use Rattle.rules.specs.Limits.{topId}
-use Rattle.rules.specs.State.{Response, ok, alreadyExists, Board, update}
+use Rattle.rules.specs.State.{Response, ok, alreadyExists, notFound, Board, update}
 use Rattle.rules.specs.Queues.{push, empty, room}
 use Rattle.rules.specs.Parts.{Told, tellPart}
 use Rattle.rules.specs.Election.{largest, masterOf, taken, statusFor, news, tellFrom, tellAll, roomOpen}
@@ -29,11 +29,12 @@ largest-le top (x ∷ ids) h = let y : x ≤ top = h 0 in let z = largest-le top
 
 news-fits : (ids : List ℕ) (n : ℕ) → ((i : ℕ) → getD ids i 0 ≤ topId) → ResponseFits (news ids n)
 unfolding news statusFor
-news-fits ids n h = go (eqb (masterOf ids) n)
+news-fits ids n h = go (eqb (masterOf ids) 0) (eqb (masterOf ids) n)
   where
-    go : (b : Bool) → AnswerFits update (cond b ok alreadyExists) (largest ids)
-    go true = largest-le topId ids h
-    go false = largest-le topId ids h
+    go : (a b : Bool) → AnswerFits update (cond a notFound (cond b ok alreadyExists)) (largest ids)
+    go true b = largest-le topId ids h
+    go false true = largest-le topId ids h
+    go false false = largest-le topId ids h
 
 -- ---- every open stream is told
 

@@ -10,7 +10,7 @@ use lib.ListN.{length, getD, List·getD-eq-default}
 use lib.Dec.{T, eqb}
 use borrow.Author.Tests.{eq-eqb, ne-eqb}
 use Rattle.rules.specs.Limits.{mostNodes, topTerm, topId, queueLength, historyLength}
-use Rattle.rules.specs.State.{Mastership, Message, update, write, Status, ok, alreadyExists, permissionDenied, Request, Response, Write, Desk, Board, Core, State}
+use Rattle.rules.specs.State.{Mastership, Message, update, write, Status, ok, alreadyExists, notFound, permissionDenied, Request, Response, Write, Desk, Board, Core, State}
 use Rattle.rules.specs.Range.{queueFits, backupFits, mastershipFits, serviceFits, learnedFits, deskFits, requestFits, answerFits, responseFits, streamFits, boardFits, writeFits, coreFits, inRange}
 use Rattle.rules_laws.specs.InRange.{QueueFits, BackupFits, MastershipFits, ServiceFits, masterless, ruled, LearnedFits, unlearned, knows, DeskFits, RequestFits, AnswerFits, ResponseFits, StreamFits, StreamAt, BoardFits, WriteFits, CoreFits, InRange}
 use Rattle.rules_laws.specs.Tests.{Is, is-map, _&_, is-not, is-unless, is-le, is-eq, is-ne, is-within, is-empty, is-all, is-each, is-distinct, is-distinct-ids}
@@ -82,9 +82,11 @@ is-answer : (m : Message) (s : Status) (id : ℕ) → Is (answerFits m s id) (An
 unfolding answerFits
 is-answer update ok id = is-le id topId
 is-answer update alreadyExists id = is-le id topId
+is-answer update notFound id = is-le id topId
 is-answer update permissionDenied id = record { to = λ t. t; from = λ t. t }
 is-answer write ok id = is-eq id 0
 is-answer write alreadyExists id = record { to = λ t. t; from = λ t. t }
+is-answer write notFound id = record { to = λ t. t; from = λ t. t }
 is-answer write permissionDenied id = is-eq id 0
 
 is-response : (r : Response) → Is (responseFits r) (ResponseFits r)

@@ -52,6 +52,7 @@ status-passes : (s : S.Status) → T (not (noStatus (packStatus s)))
 unfolding noStatus
 status-passes S.ok = tt
 status-passes S.alreadyExists = tt
+status-passes S.notFound = tt
 status-passes S.permissionDenied = tt
 
 request-passes : (r : S.Request) → T (tidyRequest (packRequest r))

@@ -129,6 +129,7 @@ unfolding noStatus
 status-same Codes.Nothing t = absurd t
 status-same Codes.Ok t = refl
 status-same Codes.AlreadyExists t = refl
+status-same Codes.NotFound t = refl
 status-same Codes.PermissionDenied t = refl
 
 status-none : (s : Status) → T (noStatus s) → s ≡ Codes.Nothing
@@ -136,6 +137,7 @@ unfolding noStatus
 status-none Codes.Nothing t = refl
 status-none Codes.Ok t = absurd t
 status-none Codes.AlreadyExists t = absurd t
+status-none Codes.NotFound t = absurd t
 status-none Codes.PermissionDenied t = absurd t
 
 request-same : (r : Request) → Any r → T (tidyRequest r) → packRequest (holdRequest r) ≡ r

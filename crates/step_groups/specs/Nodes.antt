@@ -110,9 +110,11 @@ module _ (b : Body) (n : ℕ) (a : At b n) where
   small : (m : S.Message) (t : S.Status) (id : ℕ) → AnswerFits m t id → id ≤ topId
   small S.update S.ok id h = h
   small S.update S.alreadyExists id h = h
+  small S.update S.notFound id h = h
   small S.update S.permissionDenied id h = absurd h
   small S.write S.ok id h = omega arith
   small S.write S.alreadyExists id h = absurd h
+  small S.write S.notFound id h = absurd h
   small S.write S.permissionDenied id h = omega arith
 
   waits-not-empty : (o e u : Bool) → (o && not e && u) ≡ true → e ≡ false

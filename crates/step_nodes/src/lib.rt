@@ -146,6 +146,7 @@ pub fn is_ok(status: Status) -> bool
     match status {
         Status::Ok => true,
         Status::AlreadyExists => false,
+        Status::NotFound => false,
         Status::PermissionDenied => false,
         Status::Nothing => false,
     }

@@ -51,11 +51,13 @@ abbrev pub holdStatus : Status → S.Status
 holdStatus T.Nothing = S.permissionDenied
 holdStatus T.Ok = S.ok
 holdStatus T.AlreadyExists = S.alreadyExists
+holdStatus T.NotFound = S.notFound
 holdStatus T.PermissionDenied = S.permissionDenied
 
 abbrev pub packStatus : S.Status → Status
 packStatus S.ok = T.Ok
 packStatus S.alreadyExists = T.AlreadyExists
+packStatus S.notFound = T.NotFound
 packStatus S.permissionDenied = T.PermissionDenied
 
 abbrev pub holdRequest : Request → S.Request

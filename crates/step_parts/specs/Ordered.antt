@@ -35,6 +35,7 @@ message-back S.write = refl
 status-back : (s : S.Status) → holdStatus (packStatus s) ≡ s
 status-back S.ok = refl
 status-back S.alreadyExists = refl
+status-back S.notFound = refl
 status-back S.permissionDenied = refl
 
 pub request-back : (r : S.Request) → holdRequest (packRequest r) ≡ r

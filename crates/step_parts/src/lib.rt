@@ -184,6 +184,7 @@ pub enum Status {
     Nothing,
     Ok,
     AlreadyExists,
+    NotFound,
     PermissionDenied,
 }
 

@@ -100,6 +100,7 @@ fn update_answer_fits(status: Status, id: ElectionId) -> bool
         Status::Nothing => false,
         Status::Ok => id.0 <= step_parts::TOP_ID,
         Status::AlreadyExists => id.0 <= step_parts::TOP_ID,
+        Status::NotFound => id.0 <= step_parts::TOP_ID,
         Status::PermissionDenied => false,
     }
 }
@@ -112,6 +113,7 @@ fn write_answer_fits(status: Status, id: ElectionId) -> bool
         Status::Nothing => false,
         Status::Ok => id.0 == 0,
         Status::AlreadyExists => false,
+        Status::NotFound => false,
         Status::PermissionDenied => id.0 == 0,
     }
 }
@@ -136,6 +138,7 @@ fn is_no_status(s: Status) -> bool
         Status::Nothing => true,
         Status::Ok => false,
         Status::AlreadyExists => false,
+        Status::NotFound => false,
         Status::PermissionDenied => false,
     }
 }

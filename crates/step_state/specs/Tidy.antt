@@ -37,6 +37,7 @@ unfoldable pub noStatus : Status → Bool
 noStatus T.Nothing = true
 noStatus T.Ok = false
 noStatus T.AlreadyExists = false
+noStatus T.NotFound = false
 noStatus T.PermissionDenied = false
 
 unfoldable pub blankMastership : Mastership → Bool

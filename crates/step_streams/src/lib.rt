@@ -101,6 +101,9 @@ pub fn open_number(count: u8, streams: [Stream; 8]) -> u32
 fn status_for(master: u8, node: u8) -> Status
     ensures { λ r. ⌜ ((ids : List ℕ) → masterOf ids ≡ master → r ≡ packStatus (statusFor ids node)) ⌝ }
 {
+    if master == 0 {
+        return Status::NotFound;
+    }
     if master == node {
         return Status::Ok;
     }

@@ -47,7 +47,7 @@ fn request(held: Request) -> bool {
 fn response(held: Response) -> bool {
     match held {
         Response::Update(status, id) => status != Status::PermissionDenied && id_at_least(0, id),
-        Response::Write(status) => status != Status::AlreadyExists,
+        Response::Write(status) => matches!(status, Status::Ok | Status::PermissionDenied),
     }
 }
 

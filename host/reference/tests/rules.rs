@@ -89,6 +89,7 @@ fn the_device_says_master_by_four_clauses() {
     };
     assert!(receive(&|_| ()));
     assert!(!receive(&|s| swap(s, Response::Update(Status::AlreadyExists, ElectionId(3)))));
+    assert!(!receive(&|s| swap(s, Response::Update(Status::NotFound, ElectionId(3)))));
     assert!(!receive(&|s| swap(s, Response::Update(Status::Ok, ElectionId(2)))));
     assert!(!receive(&|s| s.controllers[0].learned.master = 2));
     assert!(!receive(&|s| s.streams[0].term = NO_TERM));
@@ -152,7 +153,7 @@ fn closing_tells_only_where_the_master_changed() {
     assert_eq!(told(&state), [0, 0, 0]);
     must(&mut state, &[(CLOSE, 1)]);
     assert_eq!(told(&state), [0, 0, 1]);
-    let nobody = Response::Update(Status::AlreadyExists, NO_ID);
+    let nobody = Response::Update(Status::NotFound, NO_ID);
     assert_eq!(state.streams[2].responses.front(), Some(nobody));
     let mut state = three_streams();
     must(&mut state, &[(CLOSE, 1)]);

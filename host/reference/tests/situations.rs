@@ -118,6 +118,17 @@ fn a_new_master_is_told_to_all() {
 }
 
 #[test]
+fn without_a_master_the_others_are_told_so() {
+    let mut state = first_master(2);
+    must(&mut state, &[(CONNECT, 2), (CLOSE, 1)]);
+    let told = Response::Update(Status::NotFound, NO_ID);
+    assert_eq!(state.streams[1].responses.front(), Some(told));
+    state.controllers[1].device_says_master = true;
+    must(&mut state, &[(RECEIVE_UPDATE, 2)]);
+    assert!(!state.controllers[1].device_says_master);
+}
+
+#[test]
 fn learn_and_join_do_not_change_places() {
     assert_eq!(play(&mut fresh(2), &[(LEARN, 1), (JOIN, 2)]), [4, 0]);
     assert_eq!(play(&mut fresh(2), &[(JOIN, 2), (LEARN, 1)]), [0, 0]);
