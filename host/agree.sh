@@ -7,6 +7,10 @@ cd "$(dirname "$0")/.." || exit 1
 . host/build.sh
 out=build/agree
 earlier=$out/earlier
+if ! git rev-parse --quiet --verify "${1:-}^{commit}" >/dev/null; then
+    echo "usage: host/agree.sh REVISION [SEED [NUMBER]]" >&2
+    exit 2
+fi
 rm -rf "$out" && mkdir -p "$earlier" || exit 1
 git archive "$1" host | tar -x -C "$earlier" || exit 1
 shift
