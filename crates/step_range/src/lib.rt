@@ -1,5 +1,7 @@
 // Whether a state is in range: the test whose no is code 1. Every place of every array is looked at.
-mod rows;
+mod controllers;
+mod history;
+mod streams;
 
 ghost use mathlib.Core.Path.{_≡_};
 ghost use Prim.Native.Nat.{_≤_};
@@ -20,9 +22,9 @@ fn core_fits(count: u8, running: bool, core: Core) -> bool
         return false;
     }
     if step_range_queues::masterships::service_fits(count, service) {
-        if rows::controllers_fit(count, core) {
-            if rows::streams_fit(count, running, core) {
-                return rows::ids_fit(count, claims);
+        if controllers::controllers_fit(count, core) {
+            if streams::streams_fit(count, running, core) {
+                return streams::ids_fit(count, claims);
             }
         }
     }
@@ -37,7 +39,7 @@ pub fn in_range(s: State) -> bool
     let history = s.history;
     if step_parts::is_node(step_parts::MOST_NODES, s.count) {
         if core_fits(s.count, s.running, core) {
-            return rows::history_fits(s.count, history);
+            return history::history_fits(s.count, history);
         }
     }
     false
