@@ -1,19 +1,19 @@
 -- States that tell wrong range tests apart: the only answer of `in_range` to them. Assumes nothing.
 use mathlib.Core.Path.{_≡_, refl, _∙_}
-use mathlib.Core.Bool.{true, false}
-use mathlib.Core.List.{[], _∷_}
+use mathlib.Core.Bool.{true, false, not}
+use mathlib.Core.List.{List, [], _∷_}
 use lib.Dec.{T}
-use lib.ListN.{set}
 use Rattle.rules.specs.State as S
-use Rattle.rules.specs.Range.{inRange}
+use Rattle.rules.specs.Range.{all, inRange}
 use Rattle.rules.specs.Parts.{onDevice, tellPart}
 use Rattle.rules.specs.Step.{fresh}
 use Rattle.rules_laws.specs.All.{All}
 use Rattle.rules_laws.specs.Lists.{all-each}
 use Rattle.rules_laws.specs.Tests.{is-not, is-yes, is-all}
 use Rattle.rules_cases.specs.Outside.{inside, outside, are-inside}
-use Rattle.step_state.specs.Hold.{represent, packStream}
+use Rattle.step_state.specs.Hold.{represent}
 use Rattle.step_state.specs.Tidy.{stateFits}
+use Rattle.step_state.specs.Unused.{atLastPlaces, inLastRows, isTidy, places-are-untidy, rows-are-untidy, untidy-is-out}
 use Rattle.step_state.specs.declared.State.{State}
 use Rattle.step_bridge.specs.Passes.{fits-represent}
 use Rattle.contracts.specs.Contract.{Gives}
@@ -50,20 +50,17 @@ pub closed-keeps-term : Gives InRangeMay termKept false tt
 unfolding states
 closed-keeps-term = only-in-range termKept
 
--- Two nodes; the stream in the third row is open.
-abbrev openAboveN : State
-openAboveN = let s = represent (fresh 2) in record {
-  count = s .count;
-  running = s .running;
-  core = record {
-    service = s .core .service;
-    controllers = s .core .controllers;
-    streams = set (s .core .streams) 2 (packStream true 0 [] []);
-    claims = s .core .claims;
-  };
-  history = s .history;
-}
+-- ---- what nothing uses is blank
 
-pub row-above-n : Gives InRangeMay openAboveN false tt
-unfolding states
-row-above-n = only-in-range openAboveN
+refused : (s : State) → isTidy s ≡ false → Gives InRangeMay s false tt
+refused s e r h m = (only-in-range s r h m .0 ∙ untidy-is-out s e, refl)
+
+all-refused : (l : List State) → all (λ s. not (isTidy s)) l ≡ true → All (λ s. Gives InRangeMay s false tt) l
+all-refused l e = all-each refused l (is-all (λ s. is-not (isTidy s)) l .to (is-yes (all (λ s. not (isTidy s)) l) .from e))
+
+-- Something at the last place of an array, where nothing is in use; something in the last row, above N.
+pub last-place-looked-at : All (λ s. Gives InRangeMay s false tt) atLastPlaces
+last-place-looked-at = all-refused atLastPlaces places-are-untidy
+
+pub row-above-n : All (λ s. Gives InRangeMay s false tt) inLastRows
+row-above-n = all-refused inLastRows rows-are-untidy

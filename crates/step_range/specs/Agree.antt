@@ -15,7 +15,7 @@ use Rattle.rules.specs.Range.{all, distinctIds, queueFits, mastershipFits, serv
 use Rattle.rules_laws.specs.All.{All}
 use Rattle.rules_laws.specs.InRange.{Within}
 use Rattle.rules_laws.specs.Tests.{Is, is-map, _&_, as-is, is-unless, is-le, is-eq, is-ne, is-within, is-all, is-each, is-distinct-ids}
-use Rattle.rules_laws.specs.Lists.{all-with}
+use Rattle.rules_laws.specs.Lists.{all-with, all-each}
 use Rattle.any_list.specs.Arrays.{column}
 use Rattle.any_list.specs.Columns.{column-at, length-column}
 use Rattle.step_parts.specs.Hold.{holdMastership}
@@ -29,7 +29,7 @@ use Rattle.step_state.specs.declared.State.{State}
 use Rattle.step_bridge.specs.Sized.{SizedController, SizedStream, Sized}
 use Rattle.step_bridge.specs.Rows.{all-any, all-take, taken-at, dropped-at}
 use Rattle.step_range.specs.Tests.{controllerTest, blankControllerTest, controllersTest, streamPlace, streamsTest, idTest, idsTest, historyTest, coreTest, stateTest}
-use Rattle.step_range.specs.Places.{agree, is-then, all-taken, all-dropped, all-each, all-mapped, all-unmapped, is-places}
+use Rattle.step_range.specs.Places.{agree, is-then, all-taken, all-dropped, all-mapped, all-unmapped, is-places}
 use Rattle.step_range.specs.First.{ids-first, first-ids}
 use Rattle.step_range.specs.Masterships.{is-service}
 use Rattle.step_range.specs.Queues.{listFits, accepted, is-queue}

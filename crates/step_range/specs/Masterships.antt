@@ -1,7 +1,7 @@
 -- The tests of masterships say what the rules' test of range and the blanks of the structs say. Assumes nothing.
 use mathlib.Core.Path.{_≡_, refl, sym, ap, subst, _∙_}
 use mathlib.Core.Logic.{_≢_}
-use mathlib.Core.Bool.{Bool, true, false, cond, _&&_}
+use mathlib.Core.Bool.{Bool, true, false, not, cond, _&&_}
 use mathlib.Core.List.{List, [], _∷_}
 use Prim.Native.Nat.{ℕ, _+_, _≤_, _<_}
 use native.Mathlib.Omega.{arith}
@@ -17,13 +17,14 @@ use Rattle.rules.specs.Range.{within, backupFits, mastershipFits, serviceFits, 
 use Rattle.rules_laws.specs.All.{All}
 use Rattle.rules_laws.specs.InRange.{Distinct, Within}
 use Rattle.rules_laws.specs.Tests.{Is, is-map, _&_, as-is, is-le, is-eq, is-ne, is-within, is-empty, is-all, is-each, is-distinct}
+use Rattle.rules_laws.specs.Lists.{all-each}
 use Rattle.step_parts.specs.Hold.{holdMastership}
 use Rattle.step_parts.specs.declared.Mastership.{Mastership}
 use Rattle.step_state.specs.Tidy.{isZero, blankMastership, tidyMastership}
 use Rattle.step_bridge.specs.Sized.{SizedMastership}
 use Rattle.step_bridge.specs.Rows.{taken-at, dropped-at}
 use Rattle.step_range_queues.specs.Tests.{backupAt, backupPlace, backupsTest, blankTest, eventTest, serviceTest, learnedTest}
-use Rattle.step_range.specs.Places.{all-each, all-taken, all-dropped}
+use Rattle.step_range.specs.Places.{all-taken, all-dropped}
 use Rattle.step_range.specs.First.{ids-first, first-ids, ids-of, distinct-of}
 
 -- ---- backups
@@ -190,7 +191,7 @@ module _ (m : Mastership) (sized : SizedMastership m) where
             let both = is-eq (m .master) 0 & as-is (empty (take (m .len) (m .backups))) in
             is-map (λ t. (t .1 .0, both .from (t .0 .1, t .1 .1))) (λ h. let b = both .to (h .1) in ((e, b .0), (h .0, b .1))) (is-eq (m .term .0) 0 & is-eq (m .master) 0 & is-empty-tidy)
 
-        go : Dec (m .term .0 ≡ 0) → Is (cond (isZero (m .term .0)) (isZero (m .term .0) && isZero (m .master) && backupsTest 0 m) (eventTest n m))
+        go : Dec (m .term .0 ≡ 0) → Is (cond (not (isZero (m .term .0))) (eventTest n m) (isZero (m .term .0) && isZero (m .master) && backupsTest 0 m))
             (T (tidyMastership m) × T (cond (isZero (m .term .0)) (isZero (m .master) && empty (take (m .len) (m .backups))) (mastershipFits n (holdMastership m))))
         go (yes e) = let u = unlearned e in rw (eq-eqb (m .term .0) 0 e) (rw (eq-eqb (m .term .0) 0 e) at u)
         go (no e) = rw (ne-eqb (m .term .0) 0 e) (is-event n m sized)

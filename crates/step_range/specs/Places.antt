@@ -27,9 +27,6 @@ pub is-then : {a b : Bool} {P Q : Type 0} → Is a P → (P → Is b Q) → Is (
 is-then {a = true} h k = record { to = λ t. (h .to tt, k (h .to tt) .to t); from = λ p. k (p .0) .from (p .1) }
 is-then {a = false} h k = record { to = λ t. absurd t; from = λ p. h .from (p .0) }
 
-pub all-each : {A : Type 0} {P Q : A → Type 0} → ((x : A) → P x → Q x) → (l : List A) → All P l → All Q l
-all-each f l h = all-with (λ x a b. f x a) l h h
-
 module _ {A : Type 0} (P : A → Type 0) where
   pub all-taken : (n : ℕ) (l : List A) (d : A) → ((i : ℕ) → i < n → i < length l → P (getD l i d)) → All P (take n l)
   all-taken zero l d h = tt

@@ -13,7 +13,7 @@ use Rattle.rules.specs.Queues.{empty}
 use Rattle.rules.specs.Range.{all, mastershipFits, requestFits, responseFits, writeFits}
 use Rattle.rules_laws.specs.All.{All}
 use Rattle.rules_laws.specs.Tests.{Is, is-map, _&_, as-is, is-le, is-eq, is-all}
-use Rattle.rules_laws.specs.Lists.{all-with}
+use Rattle.rules_laws.specs.Lists.{all-with, all-each}
 use Rattle.step_parts.specs.Hold.{holdMastership, holdRequest, holdResponse, holdWrite}
 use Rattle.step_parts.specs.declared.Mastership.{Mastership}
 use Rattle.step_parts.specs.declared.Request.{Request}
@@ -24,7 +24,7 @@ use Rattle.step_bridge.specs.Sized.{SizedMastership}
 use Rattle.step_bridge.specs.Rows.{Any}
 use Rattle.step_range_queues.specs.Tests.{placesTest, eventTest, blankTest, requestTest, statusTest, responseTest}
 use Rattle.step_range.specs.Tests.{writeTest}
-use Rattle.step_range.specs.Places.{all-each, all-mapped, all-unmapped, is-places-test}
+use Rattle.step_range.specs.Places.{all-mapped, all-unmapped, is-places-test}
 use Rattle.step_range.specs.Masterships.{is-event, is-blank}
 
 -- ---- any queue

@@ -47,7 +47,7 @@ is-unlearned : (m : Mastership) → SizedMastership m → Is (learnedTest 0 m) (
 unfolding learnedTest
 is-unlearned m k = go (ℕ-discrete (m .term .0) 0)
   where
-    go : Dec (m .term .0 ≡ 0) → Is (cond (isZero (m .term .0)) (blankTest m) (eventTest 0 m)) (T (blankMastership m))
+    go : Dec (m .term .0 ≡ 0) → Is (cond (not (isZero (m .term .0))) (eventTest 0 m) (blankTest m)) (T (blankMastership m))
     go (yes e) = rw (eq-eqb (m .term .0) 0 e) (is-blank m k)
     go (no e) = rw (ne-eqb (m .term .0) 0 e) (record { to = λ t. absurd (no-event m t); from = λ t. absurd (e (no-term m t)) })
 

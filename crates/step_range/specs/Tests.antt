@@ -1,5 +1,5 @@
 -- Rows and the state in range, as the code tests them: place by place, row by row. What each function of the code gives.
-use mathlib.Core.Bool.{Bool, false, not, cond, _&&_, _||_}
+use mathlib.Core.Bool.{Bool, not, cond, _&&_, _||_}
 use mathlib.Core.List.{List}
 use Prim.Native.Nat.{ℕ}
 use lib.Dec.{leb, ltb, eqb}
@@ -46,7 +46,7 @@ streamTest running r id term =
 -- A row above N is one of a switch that does not run: closed, and with nothing.
 abbrev pub streamPlace : ℕ → Bool → List Stream → Claims → ℕ → Bool
 streamPlace count running streams claims i =
-    streamTest (cond (ltb i count) running false) (getD streams i pastStream) (getD (claims .ids) i (record { 0 = 0 }) .0) (getD (claims .terms) i (record { 0 = 0 }) .0)
+    streamTest (ltb i count && running) (getD streams i pastStream) (getD (claims .ids) i (record { 0 = 0 }) .0) (getD (claims .terms) i (record { 0 = 0 }) .0)
 
 unfoldable pub streamsTest : ℕ → Bool → List Stream → Claims → Bool
 streamsTest count running streams claims = each mostNodes (streamPlace count running streams claims)

@@ -5,34 +5,26 @@ ghost use Rattle.step_range.specs.Tests.{controllerTest, blankController
 use step_state::Controller;
 use step_state::Core;
 
-fn controller_fits(count: u8, row: Controller) -> bool
-    ensures { λ r. ⌜ r ≡ controllerTest count row ⌝ }
+// A row for a node. One above N fits among no nodes: without events, and with nothing learned.
+fn controller_fits(used: bool, count: u8, row: Controller) -> bool
+    ensures { λ r. ⌜ r ≡ cond used (controllerTest count row) (blankControllerTest row) ⌝ }
 {
     let events = row.events;
     let learned = row.learned;
-    if step_range_queues::masterships::events_fit(count, events) {
-        return step_range_queues::masterships::learned_fits(count, learned);
+    let knows = learned.term.0 != 0;
+    if used {
+        if step_range_queues::masterships::events_fit(count, events) {
+            return step_range_queues::masterships::mastership_fits(knows, count, learned);
+        }
+        return false;
     }
-    false
-}
-
-// Among no nodes only a row without events that has learned nothing fits.
-fn controller_is_blank(row: Controller) -> bool
-    ensures { λ r. ⌜ r ≡ blankControllerTest row ⌝ }
-{
     if row.says {
         return false;
     }
-    controller_fits(0, row)
-}
-
-fn controller_place_fits(count: u8, used: bool, row: Controller) -> bool
-    ensures { λ r. ⌜ r ≡ cond used (controllerTest count row) (blankControllerTest row) ⌝ }
-{
-    if used {
-        return controller_fits(count, row);
+    if step_range_queues::masterships::events_fit(0, events) {
+        return step_range_queues::masterships::mastership_fits(knows, 0, learned);
     }
-    controller_is_blank(row)
+    false
 }
 
 pub fn controllers_fit(count: u8, core: Core) -> bool
@@ -42,7 +34,7 @@ pub fn controllers_fit(count: u8, core: Core) -> bool
     while i < step_parts::MOST_NODES {
         let at = i as usize;
         let row = core.controllers[at];
-        if controller_place_fits(count, i < count, row) {
+        if controller_fits(i < count, count, row) {
             i += 1;
         } else {
             return false;

@@ -1,7 +1,5 @@
 // The history.
 ghost use mathlib.Core.Path.{_≡_};
-ghost use mathlib.Core.Bool.{cond};
-ghost use Rattle.step_state.specs.Tidy.{blankWrite};
 ghost use Rattle.step_range.specs.Tests.{writeTest, historyTest};
 use step_parts::Write;
 use step_state::History;
@@ -16,18 +14,8 @@ fn write_fits(count: u8, e: Write) -> bool
     false
 }
 
-fn write_place_fits(count: u8, used: bool, e: Write) -> bool
-    ensures { λ r. ⌜ r ≡ cond used (writeTest count e) (blankWrite e) ⌝ }
-{
-    if used {
-        return write_fits(count, e);
-    }
-    if e.node == 0 {
-        return e.term.0 == 0;
-    }
-    false
-}
-
+// The places in use, then those behind them. With one loop, which asks at each place, the whole test takes half as many
+// instructions again.
 pub fn history_fits(count: u8, h: History) -> bool
     ensures { λ r. ⌜ r ≡ historyTest count h ⌝ }
 {
@@ -36,14 +24,25 @@ pub fn history_fits(count: u8, h: History) -> bool
         return false;
     }
     let mut i: u16 = 0;
-    while i < step_parts::HISTORY_LENGTH {
+    while i < len {
         let at = i as usize;
         let e = h.items[at];
-        if write_place_fits(count, i < len, e) {
+        if write_fits(count, e) {
             i += 1;
         } else {
             return false;
         }
+    }
+    while i < step_parts::HISTORY_LENGTH {
+        let at = i as usize;
+        let e = h.items[at];
+        if e.node != 0 {
+            return false;
+        }
+        if e.term.0 != 0 {
+            return false;
+        }
+        i += 1;
     }
     true
 }

@@ -1,11 +1,8 @@
 // The rows of the streams, with what the switch holds of their nodes.
 ghost use mathlib.Core.Path.{_≡_};
-ghost use mathlib.Core.Bool.{cond, false};
 ghost use Prim.Native.Nat.{_≤_};
 ghost use Rattle.rules.specs.Limits.{mostNodes};
-ghost use Rattle.any_list.specs.Arrays.{column};
-ghost use Rattle.step_state.specs.Hold.{idAt};
-ghost use Rattle.step_range.specs.Tests.{shutTest, queuesTest, streamTest, streamsTest, idTest, idsTest};
+ghost use Rattle.step_range.specs.Tests.{shutTest, streamTest, streamsTest, idsTest};
 use step_parts::ElectionId;
 use step_parts::Term;
 use step_state::Claims;
@@ -33,21 +30,12 @@ fn is_shut(row: Stream, id: ElectionId, term: Term) -> bool
     term.0 == 0
 }
 
-fn queues_fit(row: Stream) -> bool
-    ensures { λ r. ⌜ r ≡ queuesTest row ⌝ }
-{
-    let requests = row.requests;
-    let responses = row.responses;
-    if step_range_queues::messages::requests_fit(requests) {
-        return step_range_queues::messages::responses_fit(responses);
-    }
-    false
-}
-
-// An open stream has a running switch.
+// A row for a stream, with what the switch holds of its node. An open one has a running switch.
 fn stream_fits(running: bool, row: Stream, id: ElectionId, term: Term) -> bool
     ensures { λ r. ⌜ r ≡ streamTest running row (id .0) (term .0) ⌝ }
 {
+    let requests = row.requests;
+    let responses = row.responses;
     if step_parts::TOP_TERM < row.sent.0 {
         return false;
     }
@@ -57,25 +45,18 @@ fn stream_fits(running: bool, row: Stream, id: ElectionId, term: Term) -> bool
     if step_parts::TOP_TERM < term.0 {
         return false;
     }
-    if queues_fit(row) {
-        if row.opened {
-            return running;
+    if step_range_queues::messages::requests_fit(requests) {
+        if step_range_queues::messages::responses_fit(responses) {
+            if row.opened {
+                return running;
+            }
+            return is_shut(row, id, term);
         }
-        return is_shut(row, id, term);
     }
     false
 }
 
 // A row above N is one of a switch that does not run: closed, and with nothing.
-fn stream_place_fits(used: bool, running: bool, row: Stream, id: ElectionId, term: Term) -> bool
-    ensures { λ r. ⌜ r ≡ streamTest (cond used running false) row (id .0) (term .0) ⌝ }
-{
-    if used {
-        return stream_fits(running, row, id, term);
-    }
-    stream_fits(false, row, id, term)
-}
-
 pub fn streams_fit(count: u8, running: bool, core: Core) -> bool
     ensures { λ r. ⌜ r ≡ streamsTest count running (core .streams) (core .claims) ⌝ }
 {
@@ -86,7 +67,7 @@ pub fn streams_fit(count: u8, running: bool, core: Core) -> bool
         let row = core.streams[at];
         let id = claims.ids[at];
         let term = claims.terms[at];
-        if stream_place_fits(i < count, running, row, id, term) {
+        if stream_fits((i < count) & running, row, id, term) {
             i += 1;
         } else {
             return false;
@@ -96,17 +77,6 @@ pub fn streams_fit(count: u8, running: bool, core: Core) -> bool
 }
 
 // Ids above 0 are distinct: each stands at its first place.
-fn id_fits(count: u8, claims: Claims, i: u8, id: ElectionId) -> bool
-    requires { ⌜ count ≤ mostNodes ⌝ }
-    ensures { λ r. ⌜ r ≡ idTest (id .0) (column idAt count (claims .ids)) i ⌝ }
-{
-    if id.0 == 0 {
-        return true;
-    }
-    let ids = claims.ids;
-    step_state::id_place(count, id, ids) == i
-}
-
 pub fn ids_fit(count: u8, claims: Claims) -> bool
     requires { ⌜ count ≤ mostNodes ⌝ }
     ensures { λ r. ⌜ r ≡ idsTest count claims ⌝ }
@@ -115,11 +85,15 @@ pub fn ids_fit(count: u8, claims: Claims) -> bool
     while i < count {
         let at = i as usize;
         let id = claims.ids[at];
-        if id_fits(count, claims, i, id) {
+        if id.0 == 0 {
             i += 1;
-        } else {
+            continue;
+        }
+        let ids = claims.ids;
+        if step_state::id_place(count, id, ids) != i {
             return false;
         }
+        i += 1;
     }
     true
 }

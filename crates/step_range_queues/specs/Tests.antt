@@ -1,10 +1,10 @@
 -- Masterships and queues in range, as the code tests them: place by place. What each function of the code gives.
-use mathlib.Core.Bool.{Bool, not, cond, _&&_}
+use mathlib.Core.Bool.{Bool, false, not, cond, _&&_}
 use mathlib.Core.List.{List}
 use Prim.Native.Nat.{ℕ, _+_}
 use lib.Dec.{leb, ltb, eqb}
 use lib.ListN.{getD}
-use Rattle.rules.specs.Limits.{mostBackups, topTerm, queueLength}
+use Rattle.rules.specs.Limits.{mostBackups, topTerm, topId, queueLength}
 use Rattle.rules.specs.State as S
 use Rattle.rules.specs.Ids.{placeOf}
 use Rattle.rules.specs.Range.{each, within, requestFits, answerFits}
@@ -50,12 +50,16 @@ unfoldable pub serviceTest : ℕ → Mastership → Bool
 serviceTest count m = cond (isZero (m .master)) (leb (m .term .0) topTerm && backupsTest 0 m) (eventTest count m)
 
 unfoldable pub learnedTest : ℕ → Mastership → Bool
-learnedTest count m = cond (isZero (m .term .0)) (blankTest m) (eventTest count m)
+learnedTest count m = cond (not (isZero (m .term .0))) (eventTest count m) (blankTest m)
 
 -- ---- queues
 
 unfoldable pub eventsTest : ℕ → EventQueue → Bool
 eventsTest count q = placesTest queueLength (eventTest count) blankTest pastMastership (q .items) (q .len)
+
+-- What a request carries, at a place in use.
+unfoldable pub carriesTest : Bool → ℕ → ℕ → Bool
+carriesTest used id term = cond used (within 1 topId id && within 1 topTerm term) false
 
 unfoldable pub requestTest : Request → Bool
 requestTest r = tidyRequest r && requestFits (holdRequest r)

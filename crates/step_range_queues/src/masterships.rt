@@ -4,7 +4,7 @@ ghost use mathlib.Core.Bool.{cond};
 ghost use Prim.Native.Nat.{_<_};
 ghost use Rattle.rules.specs.Limits.{mostBackups, topTerm};
 ghost use Rattle.rules.specs.Range.{within};
-ghost use Rattle.step_range_queues.specs.Tests.{backupAt, backupsTest, blankTest, eventTest, serviceTest, learnedTest, eventsTest};
+ghost use Rattle.step_range_queues.specs.Tests.{backupAt, backupsTest, blankTest, eventTest, serviceTest, eventsTest};
 use step_parts::EventQueue;
 use step_parts::Mastership;
 use step_parts::Term;
@@ -34,6 +34,7 @@ fn backup_fits(count: u8, m: Mastership, i: u8, b: u8) -> bool
     false
 }
 
+// Among no nodes, only no backups fit.
 fn backups_fit(count: u8, m: Mastership) -> bool
     ensures { λ r. ⌜ r ≡ backupsTest count m ⌝ }
 {
@@ -53,11 +54,20 @@ fn backups_fit(count: u8, m: Mastership) -> bool
     true
 }
 
-// Backups that fit among no nodes are none.
-fn is_blank(m: Mastership) -> bool
-    ensures { λ r. ⌜ r ≡ blankTest m ⌝ }
+// A place for a mastership: in use, it has a master; else it is blank.
+pub fn mastership_fits(used: bool, count: u8, m: Mastership) -> bool
+    ensures { λ r. ⌜ r ≡ cond used (eventTest count m) (blankTest m) ⌝ }
 {
-    if m.term.0 == 0 {
+    let term = m.term;
+    if used {
+        if is_term(term) {
+            if step_parts::is_node(count, m.master) {
+                return backups_fit(count, m);
+            }
+        }
+        return false;
+    }
+    if term.0 == 0 {
         if m.master == 0 {
             return backups_fit(0, m);
         }
@@ -65,19 +75,7 @@ fn is_blank(m: Mastership) -> bool
     false
 }
 
-// A mastership with a master.
-fn event_fits(count: u8, m: Mastership) -> bool
-    ensures { λ r. ⌜ r ≡ eventTest count m ⌝ }
-{
-    let term = m.term;
-    if is_term(term) {
-        if step_parts::is_node(count, m.master) {
-            return backups_fit(count, m);
-        }
-    }
-    false
-}
-
+// The service's mastership keeps its term where it has no master.
 pub fn service_fits(count: u8, m: Mastership) -> bool
     ensures { λ r. ⌜ r ≡ serviceTest count m ⌝ }
 {
@@ -87,25 +85,7 @@ pub fn service_fits(count: u8, m: Mastership) -> bool
         }
         return backups_fit(0, m);
     }
-    event_fits(count, m)
-}
-
-pub fn learned_fits(count: u8, m: Mastership) -> bool
-    ensures { λ r. ⌜ r ≡ learnedTest count m ⌝ }
-{
-    if m.term.0 == 0 {
-        return is_blank(m);
-    }
-    event_fits(count, m)
-}
-
-fn event_place_fits(count: u8, used: bool, m: Mastership) -> bool
-    ensures { λ r. ⌜ r ≡ cond used (eventTest count m) (blankTest m) ⌝ }
-{
-    if used {
-        return event_fits(count, m);
-    }
-    is_blank(m)
+    mastership_fits(true, count, m)
 }
 
 pub fn events_fit(count: u8, q: EventQueue) -> bool
@@ -119,7 +99,7 @@ pub fn events_fit(count: u8, q: EventQueue) -> bool
     while i < EventQueue::CAPACITY {
         let at = i as usize;
         let m = q.items[at];
-        if event_place_fits(count, i < len, m) {
+        if mastership_fits(i < len, count, m) {
             i += 1;
         } else {
             return false;

@@ -1,13 +1,13 @@
 -- `controllers_fit` meets its contract. The loop has passed the first i places. Assumes nothing.
-use mathlib.Core.Path.{_≡_, refl, sym, ap, _∙_}
+use mathlib.Core.Path.{_≡_, refl, sym}
 use mathlib.Core.Bool.{true}
-use Prim.Native.Nat.{ℕ, _≤_, _-_}
+use Prim.Native.Nat.{_≤_, _-_}
 use native.Mathlib.Omega.{arith}
 use borrow.Author.Needs.{needs}
 use Rattle.rules.specs.Range.{each}
 use Rattle.step_state.specs.Order.{pastController}
 use Rattle.step_range_queues.specs.Tests.{place}
-use Rattle.step_range_queues.specs.Each.{from-result, each-more, each-not}
+use Rattle.step_range_queues.specs.Each.{from-result, each-more, each-not, each-all}
 use Rattle.step_range.specs.Tests.{controllerTest, blankControllerTest, controllersTest}
 use Rattle.step_range.proofs.controllers.controllers_fit.Statement.{statement}
 use Rattle.step_range.proofs.controllers.controllers_fit.Tie as tie
@@ -31,8 +31,8 @@ mul-row c = search needs
 element-copy-out-row : tie.Need-element-copy-out-row Inv-loop μ-loop
 element-copy-out-row c = search needs
 
-controller-place-fits-requires : tie.Need-controller-place-fits-requires Inv-loop μ-loop
-controller-place-fits-requires c κs = search needs
+controller-fits-requires : tie.Need-controller-fits-requires Inv-loop μ-loop
+controller-fits-requires c κs = search needs
 
 add-i : tie.Need-add-i Inv-loop μ-loop
 add-i c = search needs
@@ -44,25 +44,21 @@ loop-again : tie.Need-loop-again Inv-loop μ-loop
 loop-again c =
     let turn = c .before .before .before .before in
     let a = turn .before .args in
-    let p = place (controllerTest (a .count)) blankControllerTest pastController (a .t2 .controllers) (a .count) in
-    (omega arith, each-more p (turn .loop .i) (turn .loop .inv .1) (from-result (c .before .controller-place-fits .ensures) (c .if1 .taken)))
+    (omega arith, each-more (place (controllerTest (a .count)) blankControllerTest pastController (a .t2 .controllers) (a .count)) (turn .loop .i) (turn .loop .inv .1) (from-result {given = place (controllerTest (a .count)) blankControllerTest pastController (a .t2 .controllers) (a .count) (turn .loop .i)} (c .before .controller-fits .ensures) (c .if1 .taken)))
 
 returns : tie.Need-returns Inv-loop μ-loop
 unfolding controllersTest
 returns c =
     let turn = c .before .before .before .before in
     let a = turn .before .args in
-    let p = place (controllerTest (a .count)) blankControllerTest pastController (a .t2 .controllers) (a .count) in
-    sym (each-not p 8 (turn .loop .i) (omega arith) (from-result (c .before .controller-place-fits .ensures) (c .if1 .left)))
+    sym (each-not (place (controllerTest (a .count)) blankControllerTest pastController (a .t2 .controllers) (a .count)) 8 (turn .loop .i) (omega arith) (from-result {given = place (controllerTest (a .count)) blankControllerTest pastController (a .t2 .controllers) (a .count) (turn .loop .i)} (c .before .controller-fits .ensures) (c .if1 .left)))
 
 returns-2 : tie.Need-returns-2 Inv-loop μ-loop
 unfolding controllersTest
 returns-2 c =
     let turn = c .before in
     let a = turn .before .args in
-    let p = place (controllerTest (a .count)) blankControllerTest pastController (a .t2 .controllers) (a .count) in
-    let n : turn .loop .i ≡ 8 = omega arith in
-    sym (turn .loop .inv .1) ∙ ap (λ (k : ℕ). each k p) n
+    each-all (place (controllerTest (a .count)) blankControllerTest pastController (a .t2 .controllers) (a .count)) 8 (turn .loop .i) (omega arith) (turn .loop .inv .1)
 
 pub controllers-fit-spec : {M : Type 1} → statement M
 controllers-fit-spec =
@@ -74,7 +70,7 @@ controllers-fit-spec =
     cast-at
     mul-row
     element-copy-out-row
-    controller-place-fits-requires
+    controller-fits-requires
     add-i
     loop-less
     loop-again

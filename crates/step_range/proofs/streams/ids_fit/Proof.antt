@@ -1,12 +1,13 @@
 -- `ids_fit` meets its contract. The loop has passed the first i places. Assumes nothing.
-use mathlib.Core.Path.{_≡_, refl, sym, ap, _∙_}
+use mathlib.Core.Path.{_≡_, refl, sym}
 use mathlib.Core.Bool.{true}
-use Prim.Native.Nat.{ℕ, _≤_, _-_}
+use Prim.Native.Nat.{_≤_, _-_}
 use native.Mathlib.Omega.{arith}
 use borrow.Author.Needs.{needs}
+use borrow.Author.Tests.{eq-eqb, ne-eqb}
 use Rattle.rules.specs.Range.{each}
-use Rattle.step_range_queues.specs.Each.{from-result, each-more, each-not}
-use Rattle.step_range.specs.Tests.{idPlace, idsTest}
+use Rattle.step_range_queues.specs.Each.{each-more, each-not, each-all}
+use Rattle.step_range.specs.Tests.{idTest, idPlace, idsTest}
 use Rattle.step_range.proofs.streams.ids_fit.Statement.{statement}
 use Rattle.step_range.proofs.streams.ids_fit.Tie as tie
 
@@ -29,9 +30,6 @@ mul-id c = search needs
 element-copy-out-id : tie.Need-element-copy-out-id Inv-loop μ-loop
 element-copy-out-id c = search needs
 
-id-fits-requires : tie.Need-id-fits-requires Inv-loop μ-loop
-id-fits-requires c κs = search needs
-
 add-i : tie.Need-add-i Inv-loop μ-loop
 add-i c = search needs
 
@@ -39,28 +37,45 @@ loop-less : tie.Need-loop-less Inv-loop μ-loop
 loop-less c = search needs
 
 loop-again : tie.Need-loop-again Inv-loop μ-loop
+unfolding idTest
 loop-again c =
     let turn = c .before .before .before .before in
     let a = turn .before .args in
-    let p = idPlace (a .count) (a .t2) in
-    (omega arith, each-more p (turn .loop .i) (turn .loop .inv .1) (from-result (c .before .id-fits .ensures) (c .if1 .taken)))
+    (omega arith, each-more (idPlace (a .count) (a .t2)) (turn .loop .i) (turn .loop .inv .1) (simp (eq-eqb _ _ (c .if1 .taken))))
+
+id-place-requires : tie.Need-id-place-requires Inv-loop μ-loop
+id-place-requires c κs = search needs
 
 returns : tie.Need-returns Inv-loop μ-loop
-unfolding idsTest
+unfolding idsTest idTest
 returns c =
-    let turn = c .before .before .before .before in
+    let turn = c .before .before .before .before .before .before .before in
     let a = turn .before .args in
-    let p = idPlace (a .count) (a .t2) in
-    sym (each-not p (a .count) (turn .loop .i) (omega arith) (from-result (c .before .id-fits .ensures) (c .if1 .left)))
+    sym (each-not (idPlace (a .count) (a .t2)) (a .count) (turn .loop .i) (omega arith)
+    (simp (ne-eqb _ _ (c .before .before .before .if1 .left), ← c .before .id-place .ensures, ne-eqb _ _ (c .if2 .taken))))
+
+add-i-2 : tie.Need-add-i-2 Inv-loop μ-loop
+add-i-2 c = search needs
+
+loop-less-2 : tie.Need-loop-less-2 Inv-loop μ-loop
+loop-less-2 c = search needs
+
+loop-again-2 : tie.Need-loop-again-2 Inv-loop μ-loop
+unfolding idTest
+loop-again-2 c =
+    let turn = c .before .before .before .before .before .before .before in
+    let a = turn .before .args in (
+      omega arith,
+      each-more (idPlace (a .count) (a .t2)) (turn .loop .i) (turn .loop .inv .1)
+          (simp (ne-eqb _ _ (c .before .before .before .if1 .left), ← c .before .id-place .ensures, eq-eqb _ _ (c .if2 .left))),
+    )
 
 returns-2 : tie.Need-returns-2 Inv-loop μ-loop
 unfolding idsTest
 returns-2 c =
     let turn = c .before in
     let a = turn .before .args in
-    let p = idPlace (a .count) (a .t2) in
-    let n : turn .loop .i ≡ a .count = omega arith in
-    sym (turn .loop .inv .1) ∙ ap (λ (k : ℕ). each k p) n
+    each-all (idPlace (a .count) (a .t2)) (a .count) (turn .loop .i) (omega arith) (turn .loop .inv .1)
 
 pub ids-fit-spec : {M : Type 1} → statement M
 ids-fit-spec =
@@ -72,9 +87,12 @@ ids-fit-spec =
     cast-at
     mul-id
     element-copy-out-id
-    id-fits-requires
     add-i
     loop-less
     loop-again
+    id-place-requires
     returns
+    add-i-2
+    loop-less-2
+    loop-again-2
     returns-2)

@@ -1,11 +1,11 @@
 -- `streams_fit` meets its contract. The loop has passed the first i places. Assumes nothing.
-use mathlib.Core.Path.{_≡_, refl, sym, ap, _∙_}
+use mathlib.Core.Path.{_≡_, refl, sym}
 use mathlib.Core.Bool.{true}
-use Prim.Native.Nat.{ℕ, _≤_, _-_}
+use Prim.Native.Nat.{_≤_, _-_}
 use native.Mathlib.Omega.{arith}
 use borrow.Author.Needs.{needs}
 use Rattle.rules.specs.Range.{each}
-use Rattle.step_range_queues.specs.Each.{from-result, each-more, each-not}
+use Rattle.step_range_queues.specs.Each.{from-result, each-more, each-not, each-all}
 use Rattle.step_range.specs.Tests.{streamPlace, streamsTest}
 use Rattle.step_range.proofs.streams.streams_fit.Statement.{statement}
 use Rattle.step_range.proofs.streams.streams_fit.Tie as tie
@@ -41,8 +41,8 @@ mul-term c = search needs
 element-copy-out-term : tie.Need-element-copy-out-term Inv-loop μ-loop
 element-copy-out-term c = search needs
 
-stream-place-fits-requires : tie.Need-stream-place-fits-requires Inv-loop μ-loop
-stream-place-fits-requires c κs = search needs
+stream-fits-requires : tie.Need-stream-fits-requires Inv-loop μ-loop
+stream-fits-requires c κs = search needs
 
 add-i : tie.Need-add-i Inv-loop μ-loop
 add-i c = search needs
@@ -54,25 +54,21 @@ loop-again : tie.Need-loop-again Inv-loop μ-loop
 loop-again c =
     let turn = c .before .before .before .before .before .before in
     let a = turn .before .before .args in
-    let p = streamPlace (a .count) (a .running) (a .t3 .streams) (a .t3 .claims) in
-    (omega arith, each-more p (turn .loop .i) (turn .loop .inv .1) (from-result {given = p (turn .loop .i)} (c .before .stream-place-fits .ensures) (c .if1 .taken)))
+    (omega arith, each-more (streamPlace (a .count) (a .running) (a .t3 .streams) (a .t3 .claims)) (turn .loop .i) (turn .loop .inv .1) (from-result {given = streamPlace (a .count) (a .running) (a .t3 .streams) (a .t3 .claims) (turn .loop .i)} (c .before .stream-fits .ensures) (c .if1 .taken)))
 
 returns : tie.Need-returns Inv-loop μ-loop
 unfolding streamsTest
 returns c =
     let turn = c .before .before .before .before .before .before in
     let a = turn .before .before .args in
-    let p = streamPlace (a .count) (a .running) (a .t3 .streams) (a .t3 .claims) in
-    sym (each-not p 8 (turn .loop .i) (omega arith) (from-result {given = p (turn .loop .i)} (c .before .stream-place-fits .ensures) (c .if1 .left)))
+    sym (each-not (streamPlace (a .count) (a .running) (a .t3 .streams) (a .t3 .claims)) 8 (turn .loop .i) (omega arith) (from-result {given = streamPlace (a .count) (a .running) (a .t3 .streams) (a .t3 .claims) (turn .loop .i)} (c .before .stream-fits .ensures) (c .if1 .left)))
 
 returns-2 : tie.Need-returns-2 Inv-loop μ-loop
 unfolding streamsTest
 returns-2 c =
     let turn = c .before in
     let a = turn .before .before .args in
-    let p = streamPlace (a .count) (a .running) (a .t3 .streams) (a .t3 .claims) in
-    let n : turn .loop .i ≡ 8 = omega arith in
-    sym (turn .loop .inv .1) ∙ ap (λ (k : ℕ). each k p) n
+    each-all (streamPlace (a .count) (a .running) (a .t3 .streams) (a .t3 .claims)) 8 (turn .loop .i) (omega arith) (turn .loop .inv .1)
 
 pub streams-fit-spec : {M : Type 1} → statement M
 streams-fit-spec =
@@ -88,7 +84,7 @@ streams-fit-spec =
     element-copy-out-id
     mul-term
     element-copy-out-term
-    stream-place-fits-requires
+    stream-fits-requires
     add-i
     loop-less
     loop-again

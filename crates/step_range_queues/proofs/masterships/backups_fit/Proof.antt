@@ -1,14 +1,13 @@
 -- `backups_fit` meets its contract. The loop has passed the first i places. Assumes nothing.
-use mathlib.Core.Path.{_≡_, refl, sym, ap, _∙_}
+use mathlib.Core.Path.{_≡_, refl}
 use mathlib.Core.Bool.{true}
-use Prim.Native.Nat.{ℕ, _≤_, _-_}
+use Prim.Native.Nat.{_≤_, _-_}
 use native.Mathlib.Omega.{arith}
 use borrow.Author.Needs.{needs}
-use borrow.Author.Tests.{le-leb}
 use Rattle.rules.specs.Range.{each}
 use Rattle.any_list.specs.Tests.{tests}
 use Rattle.step_range_queues.specs.Tests.{backupPlace, backupsTest}
-use Rattle.step_range_queues.specs.Each.{from-result, each-more, each-not}
+use Rattle.step_range_queues.specs.Each.{from-result, each-more, places-all, places-not}
 use Rattle.step_range_queues.proofs.masterships.backups_fit.Statement.{statement}
 use Rattle.step_range_queues.proofs.masterships.backups_fit.Tie as tie
 
@@ -45,25 +44,21 @@ loop-again : tie.Need-loop-again Inv-loop μ-loop
 loop-again c =
     let turn = c .before .before .before .before in
     let a = turn .before .before .args in
-    let p = backupPlace (a .count) (a .t2) in
-    (omega arith, each-more p (turn .loop .i) (turn .loop .inv .1) (from-result (c .before .backup-fits .ensures) (c .if2 .taken)))
+    (omega arith, each-more (backupPlace (a .count) (a .t2)) (turn .loop .i) (turn .loop .inv .1) (from-result (c .before .backup-fits .ensures) (c .if2 .taken)))
 
 returns-2 : tie.Need-returns-2 Inv-loop μ-loop
 unfolding backupsTest
 returns-2 c =
     let turn = c .before .before .before .before in
     let a = turn .before .before .args in
-    let p = backupPlace (a .count) (a .t2) in
-    simp (le-leb _ _ (turn .before .if1 .left), each-not p 7 (turn .loop .i) (omega arith) (from-result (c .before .backup-fits .ensures) (c .if2 .left)))
+    places-not (backupPlace (a .count) (a .t2)) 7 (a .t2 .len) (turn .before .if1 .left) (turn .loop .i) (omega arith) (from-result (c .before .backup-fits .ensures) (c .if2 .left))
 
 returns-3 : tie.Need-returns-3 Inv-loop μ-loop
 unfolding backupsTest
 returns-3 c =
     let turn = c .before in
     let a = turn .before .before .args in
-    let p = backupPlace (a .count) (a .t2) in
-    let n : turn .loop .i ≡ 7 = omega arith in
-    simp (le-leb _ _ (turn .before .if1 .left)) (sym (turn .loop .inv .1) ∙ ap (λ (k : ℕ). each k p) n)
+    places-all (backupPlace (a .count) (a .t2)) 7 (a .t2 .len) (turn .before .if1 .left) (turn .loop .i) (omega arith) (turn .loop .inv .1)
 
 pub backups-fit-spec : {M : Type 1} → statement M
 backups-fit-spec =

@@ -1,15 +1,14 @@
 -- `events_fit` meets its contract. The loop has passed the first i places. Assumes nothing.
-use mathlib.Core.Path.{_≡_, refl, sym, ap, _∙_}
+use mathlib.Core.Path.{_≡_, refl}
 use mathlib.Core.Bool.{true}
-use Prim.Native.Nat.{ℕ, _≤_, _-_}
+use Prim.Native.Nat.{_≤_, _-_}
 use native.Mathlib.Omega.{arith}
 use borrow.Author.Needs.{needs}
-use borrow.Author.Tests.{le-leb}
 use Rattle.rules.specs.Range.{each}
 use Rattle.any_list.specs.Tests.{tests}
 use Rattle.step_parts.specs.Hold.{pastMastership}
 use Rattle.step_range_queues.specs.Tests.{place, placesTest, eventTest, blankTest, eventsTest}
-use Rattle.step_range_queues.specs.Each.{from-result, each-more, each-not}
+use Rattle.step_range_queues.specs.Each.{from-result, each-more, places-all, places-not}
 use Rattle.step_range_queues.proofs.masterships.events_fit.Statement.{statement}
 use Rattle.step_range_queues.proofs.masterships.events_fit.Tie as tie
 
@@ -36,8 +35,8 @@ mul-m c = search needs
 element-copy-out-m : tie.Need-element-copy-out-m Inv-loop μ-loop
 element-copy-out-m c = search needs
 
-event-place-fits-requires : tie.Need-event-place-fits-requires Inv-loop μ-loop
-event-place-fits-requires c κs = search needs
+mastership-fits-requires : tie.Need-mastership-fits-requires Inv-loop μ-loop
+mastership-fits-requires c κs = search needs
 
 add-i : tie.Need-add-i Inv-loop μ-loop
 add-i c = search needs
@@ -49,25 +48,21 @@ loop-again : tie.Need-loop-again Inv-loop μ-loop
 loop-again c =
     let turn = c .before .before .before .before in
     let a = turn .before .before .args in
-    let p = place (eventTest (a .count)) blankTest pastMastership (a .t2 .items) (a .t2 .len) in
-    (omega arith, each-more p (turn .loop .i) (turn .loop .inv .1) (from-result (c .before .event-place-fits .ensures) (c .if2 .taken)))
+    (omega arith, each-more (place (eventTest (a .count)) blankTest pastMastership (a .t2 .items) (a .t2 .len)) (turn .loop .i) (turn .loop .inv .1) (from-result (c .before .mastership-fits .ensures) (c .if2 .taken)))
 
 returns-2 : tie.Need-returns-2 Inv-loop μ-loop
 unfolding eventsTest placesTest
 returns-2 c =
     let turn = c .before .before .before .before in
     let a = turn .before .before .args in
-    let p = place (eventTest (a .count)) blankTest pastMastership (a .t2 .items) (a .t2 .len) in
-    simp (le-leb _ _ (turn .before .if1 .left), each-not p 8 (turn .loop .i) (omega arith) (from-result (c .before .event-place-fits .ensures) (c .if2 .left)))
+    places-not (place (eventTest (a .count)) blankTest pastMastership (a .t2 .items) (a .t2 .len)) 8 (a .t2 .len) (turn .before .if1 .left) (turn .loop .i) (omega arith) (from-result (c .before .mastership-fits .ensures) (c .if2 .left))
 
 returns-3 : tie.Need-returns-3 Inv-loop μ-loop
 unfolding eventsTest placesTest
 returns-3 c =
     let turn = c .before in
     let a = turn .before .before .args in
-    let p = place (eventTest (a .count)) blankTest pastMastership (a .t2 .items) (a .t2 .len) in
-    let n : turn .loop .i ≡ 8 = omega arith in
-    simp (le-leb _ _ (turn .before .if1 .left)) (sym (turn .loop .inv .1) ∙ ap (λ (k : ℕ). each k p) n)
+    places-all (place (eventTest (a .count)) blankTest pastMastership (a .t2 .items) (a .t2 .len)) 8 (a .t2 .len) (turn .before .if1 .left) (turn .loop .i) (omega arith) (turn .loop .inv .1)
 
 pub events-fit-spec : {M : Type 1} → statement M
 events-fit-spec =
@@ -80,7 +75,7 @@ events-fit-spec =
     cast-at
     mul-m
     element-copy-out-m
-    event-place-fits-requires
+    mastership-fits-requires
     add-i
     loop-less
     loop-again

@@ -16,12 +16,12 @@ returns-2 : tie.Need-returns-2
 unfolding serviceTest
 returns-2 c = search tests
 
-event-fits-requires : tie.Need-event-fits-requires
-event-fits-requires c κs = search needs
+mastership-fits-requires : tie.Need-mastership-fits-requires
+mastership-fits-requires c κs = search needs
 
 returns-3 : tie.Need-returns-3
 unfolding serviceTest
 returns-3 c = search tests
 
 pub service-fits-spec : {M : Type 1} → statement M
-service-fits-spec = tie.close (tie.spec returns backups-fit-requires returns-2 event-fits-requires returns-3)
+service-fits-spec = tie.close (tie.spec returns backups-fit-requires returns-2 mastership-fits-requires returns-3)
