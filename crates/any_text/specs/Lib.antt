@@ -1,5 +1,5 @@
 -- Believed: Decimal, Lines, Put, Line.
--- Laws: Digits, Widths, Puts, Spacing, Sample.
+-- Laws: Digits, Widths, Puts, Spacing, Lined, Sample.
 pub mod Decimal
 pub mod Lines
 pub mod Put
@@ -8,4 +8,5 @@ pub mod Widths
 pub mod Puts
 pub mod Line
 pub mod Spacing
+pub mod Lined
 pub mod Sample

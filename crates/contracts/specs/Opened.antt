@@ -7,9 +7,9 @@ use Rattle.step_state.specs.Tidy.{noMessage, noStatus, blankMastership, blankRe
 use Rattle.run_lists.specs.EventList.{numberAt, refusal, historyBytes}
 use Rattle.run.specs.Ran.{runRefusal, ran}
 use Rattle.any_text.specs.Decimal.{digits, decimal}
-use Rattle.any_text.specs.Line.{spaced, line}
+use Rattle.any_text.specs.Line.{spaced, line, lines}
 use Rattle.any_text.specs.Lines.{recordLine, writesLine, writeLine}
-use Rattle.run_lines.specs.RunText.{lines, runText}
+use Rattle.run_lines.specs.RunText.{runText}
 use Rattle.run_text.specs.Transcript.{transcript}
 use Rattle.merge_compare.specs.Compare.{compare}
 use Rattle.merge_compare.specs.Compared.{compared}
@@ -17,7 +17,8 @@ use Rattle.merge_call.specs.Reply.{reply}
 use Rattle.run_difference.specs.Difference.{common, difference}
 use Rattle.merge_text.specs.Report.{verdictLine, partingLine, runsText, report}
 use Rattle.merge_verdict.specs.Clocks.{fixed}
-use Rattle.log_read.specs.Text.{pieces, numberOf, lineOf}
+use Rattle.any_words.specs.Text.{pieces, numberOf}
+use Rattle.log_read.specs.Line.{lineOf}
 use Rattle.log_read.specs.Log.{part, readText}
 use Rattle.log_doubts.specs.Doubts.{inDoubt, pairs}
 use Rattle.log_text.specs.Answer.{outcome, shown, doubtsText, answer}

@@ -14,7 +14,7 @@ use Rattle.any_text.specs.Put.{Put}
 use Rattle.any_text.specs.Puts.{put-none, put-then}
 use Rattle.log_records.specs.Rows.{rowIn}
 use Rattle.log_exchange.specs.Exchange.{moved}
-use Rattle.run_lists.specs.Made.{flat, trailerBytes, listOf}
+use Rattle.run_lists.specs.Listed.{flat, trailerBytes, listOf}
 
 -- The step at place i of the exchanged merge.
 abbrev pub stepAt : List ℕ → Bool → ℕ → ℕ → ℕ → Event

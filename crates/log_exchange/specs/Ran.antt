@@ -17,7 +17,8 @@ use Rattle.run_difference.specs.Runs.{Written, written-run}
 use Rattle.log_read.specs.Log.{Row}
 use Rattle.log_records.specs.Rows.{noRow, rowIn, rowsIn, stepsOf}
 use Rattle.log_exchange.specs.Exchange.{moved, exchanged, historyOf, partingOf}
-use Rattle.run_lists.specs.Made.{listOf, Small, list-good, list-count, list-nodes, list-records}
+use Rattle.run_lists.specs.Listed.{listOf}
+use Rattle.run_lists.specs.Made.{Small, list-good, list-count, list-nodes, list-records}
 use Rattle.log_exchange.specs.Moves.{before-both, moved-inside}
 use Rattle.log_exchange.specs.Filling.{stepAt}
 

@@ -15,8 +15,9 @@ use Rattle.rules_laws.specs.Tests.{is-within}
 use Rattle.log_read.specs.declared.Line.{Line}
 use Rattle.log_read.specs.declared.Line.the-variants.{Blank, Two, Four, Other}
 use Rattle.log_read.specs.declared.Head.{Head}
-use Rattle.log_read.specs.Text.{lines, lineOf}
-use Rattle.log_read.specs.Numbers.{first-true, both-true}
+use Rattle.any_words.specs.Text.{lines}
+use Rattle.log_read.specs.Line.{lineOf}
+use Rattle.any_words.specs.Numbers.{first-true, both-true}
 use Rattle.log_read.specs.Log.{mostRecords, Row, fits, rowOn, Part, after, part, Reading, badHead, noHead, headOn, headed, readLines, readText}
 
 pub fits-few : (records k : ℕ) (l : Line) → records ≤ mostRecords → fits records l ≡ true → records + length (rowOn k l) ≤ mostRecords

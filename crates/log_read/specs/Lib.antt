@@ -1,8 +1,6 @@
--- Believed: Text, Log.
--- Laws: Words, Numbers, Scan, Known, Reads.
-pub mod Text
-pub mod Words
-pub mod Numbers
+-- Believed: Line, Log.
+-- Laws: Scan, Known, Reads.
+pub mod Line
 pub mod Scan
 pub mod Log
 pub mod Known

@@ -11,7 +11,8 @@ use Rattle.log_read.specs.declared.Line.{Line}
 use Rattle.log_read.specs.declared.Line.the-variants.{Blank, Two, Four, Other}
 use Rattle.log_read.specs.declared.Head.{Head}
 use Rattle.log_read.specs.declared.Log.{Log}
-use Rattle.log_read.specs.Text.{lines, lineOf}
+use Rattle.any_words.specs.Text.{lines}
+use Rattle.log_read.specs.Line.{lineOf}
 
 -- The most bytes of a text, and the most records of a log.
 abbrev pub longestText : ℕ

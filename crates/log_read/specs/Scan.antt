@@ -11,13 +11,13 @@ use native.Mathlib.Decide.{ℕ-discrete}
 use lib.ListN.{length, getD, take, drop, set, length-set, drop-of-length-le}
 use lib.Seq.{drop-cons, append-snoc, take-suc-set, take-all}
 use borrow.Author.Tests.{not-true}
-use Rattle.rules.specs.Queues.{empty}
 use Rattle.any_search.specs.Seek.{Sought}
-use Rattle.log_read.specs.declared.Number.{Number}
-use Rattle.log_read.specs.declared.Number.the-variants.{Value, Bad}
+use Rattle.any_words.specs.declared.Number.{Number}
+use Rattle.any_words.specs.declared.Number.the-variants.{Value, Bad}
 use Rattle.log_read.specs.declared.Line.the-variants.{Blank, Two, Four, Other}
-use Rattle.log_read.specs.Text.{isBlank, pieces, numberOf, before, numbers, sorted, words, lineOf}
-use Rattle.log_read.specs.Words.{blankIs, line-skip, word-more, line-word}
+use Rattle.any_words.specs.Text.{isBlank, pieces, numberOf, words}
+use Rattle.log_read.specs.Line.{before, numbers, sorted, lineOf}
+use Rattle.any_words.specs.Words.{blankIs, line-skip, word-more, line-word}
 
 -- ---- up to four numbers
 
@@ -87,7 +87,7 @@ module _ (line : List ℕ) where
 
 module _ {line values : List ℕ} {n at : ℕ} (s : Scanned line values n at) where
   pub scan-ends : length line ≤ at → sorted (some (take n values)) ≡ lineOf line
-  unfolding lineOf pieces empty
+  unfolding lineOf pieces
   scan-ends h =
       let end : words (drop at line) ≡ [] = ap words (drop-of-length-le line h) in
       ap (λ (l : List ℕ). sorted (some l)) (sym (append-nil (take n values)))

@@ -4,13 +4,13 @@ ghost use mathlib.Core.Path.{_≡_};
 ghost use mathlib.Core.Option.{some};
 ghost use mathlib.Core.List.{[], _∷_};
 ghost use Prim.Native.Nat.{_+_, _*_, _≤_, _<_};
-ghost use lib.ListN.{length, getD, take};
+ghost use lib.ListN.{length, take};
 ghost use lib.Seq.{sets};
-ghost use Rattle.any_search.specs.Seek.{Sought};
-ghost use Rattle.log_read.specs.Text.{isNewline, isBlank, isDigit, numberOf, sorted, lineOf};
-ghost use Rattle.log_read.specs.Words.{blankIs};
+ghost use Rattle.any_words.specs.Lines.{linesFrom};
+ghost use Rattle.log_read.specs.Line.{sorted, lineOf};
 ghost use Rattle.log_read.specs.Log.{longestText, mostRecords, part, headOn, readText, numbersIn, logOf};
-ghost use Rattle.log_read.specs.Reads.{rowRoom, Took, linesFrom, ReadPart};
+ghost use Rattle.log_read.specs.Reads.{rowRoom, Took, ReadPart};
+use any_words::Number;
 
 // The most bytes that a text has.
 pub const LONGEST: usize = 2097152;
@@ -28,12 +28,6 @@ pub const AT_NODE: usize = 4;
 
 // Room for the records of the longest log.
 pub const ROOM: usize = 163810;
-
-// A word of a line.
-pub enum Number {
-    Value(u64),
-    Bad,
-}
 
 // A line: no words, two or four numbers, or none of these.
 pub enum Line {
@@ -71,70 +65,7 @@ pub struct Log {
     pub records: usize,
 }
 
-// ---- bytes
-
-fn is_blank(byte: u8) -> bool
-    ensures { λ r. ⌜ r ≡ isBlank byte ⌝ }
-{
-    (byte == b' ') | (byte == b'\t') | (byte == b'\r')
-}
-
-fn is_digit(byte: u8) -> bool
-    ensures { λ r. ⌜ r ≡ isDigit byte ⌝ }
-{
-    (b'0' <= byte) & (byte <= b'9')
-}
-
-// The next newline, or the end.
-fn line_end(text: &[u8], start: usize) -> usize
-    requires { ⌜ start ≤ length (now text) ⌝ }
-    ensures { λ r. ⌜ Sought (λ k. isNewline (getD (now (text .entry)) k 0)) start (length (now (text .entry))) r ⌝ }
-{
-    let mut i = start;
-    while i < text.len() {
-        if text[i] == b'\n' {
-            return i;
-        }
-        i += 1;
-    }
-    i
-}
-
-// The next byte that is blank, or that is not, or the end.
-fn next_where(line: &[u8], start: usize, blank: bool) -> usize
-    requires { ⌜ start ≤ length (now line) ⌝ }
-    ensures { λ r. ⌜ Sought (blankIs blank (now (line .entry))) start (length (now (line .entry))) r ⌝ }
-{
-    let mut i = start;
-    while i < line.len() {
-        if is_blank(line[i]) == blank {
-            return i;
-        }
-        i += 1;
-    }
-    i
-}
-
 // ---- numbers
-
-fn read_number(word: &[u8]) -> Number
-    ensures { λ r. ⌜ r ≡ numberOf (now (word .entry)) ⌝ }
-{
-    if 19 < word.len() {
-        return Number::Bad;
-    }
-    let mut value: u64 = 0;
-    let mut i: usize = 0;
-    while i < word.len() {
-        let byte = word[i];
-        if !is_digit(byte) {
-            return Number::Bad;
-        }
-        value = 10 * value + (byte - b'0') as u64;
-        i += 1;
-    }
-    Number::Value(value)
-}
 
 // What n numbers make of a line.
 fn line_with(values: [u64; 4], n: usize) -> Line
@@ -158,10 +89,10 @@ fn line_of(line: &[u8]) -> Line
 {
     let mut values = [0u64; 4];
     let mut n: usize = 0;
-    let mut at = next_where(line, 0, false);
+    let mut at = any_words::next_where(line, 0, false);
     while at < line.len() {
-        let end = next_where(line, at, true);
-        let Number::Value(value) = read_number(&line[at..end]) else {
+        let end = any_words::next_where(line, at, true);
+        let Number::Value(value) = any_words::read_number(&line[at..end]) else {
             return Line::Other;
         };
         if 4 <= n {
@@ -169,7 +100,7 @@ fn line_of(line: &[u8]) -> Line
         }
         values[n] = value;
         n += 1;
-        at = next_where(line, end, false);
+        at = any_words::next_where(line, end, false);
     }
     line_with(values, n)
 }
@@ -230,7 +161,7 @@ fn read_rows(text: &[u8], start: usize, first: usize, rows: &mut [u64]) -> Rows
     let mut k = first;
     let mut records: usize = 0;
     while at <= text.len() {
-        let end = line_end(text, at);
+        let end = any_words::next_byte(text, at, b'\n');
         let taken = take_line(line_of(&text[at..end]), k, rows, records);
         if !taken.fits {
             return Rows {
@@ -290,7 +221,7 @@ pub fn read_log(text: &[u8], rows: &mut [u64; ROOM]) -> Log
     let mut at: usize = 0;
     let mut k: usize = 1;
     while at <= text.len() {
-        let end = line_end(text, at);
+        let end = any_words::next_byte(text, at, b'\n');
         let head = head_on(line_of(&text[at..end]));
         if head.good {
             let read = read_rows(text, end + 1, k + 1, rows);

@@ -77,7 +77,7 @@ apart-against = record {
 
 module _ (C : Type 0) (other : List ℕ) (apart : Apart other) where
   -- One line, with nothing behind it.
-  one-line : (word ns : List ℕ) → all plain word ≡ true → Unlike other word → Says other (line word ns) → C
+  one-line : (word ns : List ℕ) → plain word ≡ true → Unlike other word → Says other (line word ns) → C
   one-line word ns h u s =
       says-line other word ns [] h (λ e. absurd (u ns e)) (says-none other (λ e. absurd (apart .some e)))
       (record { place = s .place; begins = rw (append-nil (line word ns)) (s .begins) })

@@ -9,7 +9,7 @@ use Rattle.rules.specs.Step.{step, fresh}
 use Rattle.rules.specs.Run.{run}
 use Rattle.merge_verdict.specs.Clocks.{Logged, events, SameLogs, clocks, Timely}
 use Rattle.merge_text.specs.Words as R
-use Rattle.log_read.specs.Text.{lines}
+use Rattle.any_words.specs.Text.{lines}
 use Rattle.log_read.specs.Log.{Reading, readText}
 use Rattle.log_records.specs.Rows.{merged}
 use Rattle.log_records.specs.PairLine.{against}

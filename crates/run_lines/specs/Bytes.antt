@@ -5,7 +5,8 @@ use lib.ListN.{drop}
 use Rattle.run_lists.specs.EventList.{recordCount}
 use Rattle.any_text.specs.Lines.{writesLine}
 use Rattle.run_lists.specs.Entries.{entryAt}
-use Rattle.run_lines.specs.RunText.{lines, recordLineAt, lineOf}
+use Rattle.any_text.specs.Line.{lines}
+use Rattle.run_lines.specs.RunText.{recordLineAt, lineOf}
 
 abbrev pub entryLineAt : List ℕ → ℕ → List ℕ
 entryLineAt part i = lineOf (entryAt part i)

@@ -1,6 +1,4 @@
 -- Believed: RunText.
 -- Definitions: Bytes.
--- Laws: Lines.
 pub mod RunText
 pub mod Bytes
-pub mod Lines

@@ -1,16 +1,12 @@
 -- What is printed of a run: a line for each record, the number of writes, and a line for each of them.
-use mathlib.Core.List.{List, [], _++_}
-use Prim.Native.Nat.{ℕ, zero, suc, _+_}
+use mathlib.Core.List.{List, _++_}
+use Prim.Native.Nat.{ℕ, _+_}
 use lib.ListN.{length, getD}
 use Rattle.rules.specs.State.{Write}
 use Rattle.run_lists.specs.EventList.{recordCount, recordAt}
 use Rattle.run_lists.specs.Entries.{noWrite}
+use Rattle.any_text.specs.Line.{lines}
 use Rattle.any_text.specs.Lines.{recordLine, writesLine, writeLine}
-
--- The first n of the lines f 0, f 1, f 2 and so on.
-unfoldable pub lines : (ℕ → List ℕ) → ℕ → List ℕ
-lines f zero = []
-lines f (suc n) = lines f n ++ f n
 
 -- The line of the record that i others stand before.
 abbrev pub recordLineAt : List ℕ → List ℕ → ℕ → List ℕ

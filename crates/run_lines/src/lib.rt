@@ -6,7 +6,7 @@ ghost use Rattle.run_lists.specs.Trails.{Trails};
 ghost use Rattle.any_text.specs.Put.{Put};
 ghost use Rattle.run_lines.specs.RunText.{recordLineAt};
 ghost use Rattle.run_lines.specs.Bytes.{entryLineAt, bytesText, longestText};
-ghost use Rattle.run_lines.specs.Lines.{Lined};
+ghost use Rattle.any_text.specs.Lined.{Lined};
 use run_lists::Trailer;
 
 // A line for each record. It has at most 18 bytes: a place of five digits, and three bytes of three digits.

@@ -1,8 +1,9 @@
 -- Believed: EventList, Entries.
--- Definitions: Reads.
+-- Definitions: Listed, Reads.
 -- Laws: Good, Trails, Stores, Written, Sample, Made.
 pub mod EventList
 pub mod Entries
+pub mod Listed
 pub mod Reads
 pub mod Good
 pub mod Trails

@@ -1,7 +1,7 @@
--- Steps as an event list of bytes: it is good, and says the steps. Assumes nothing.
+-- An event list that was made of steps is good, and says them. Assumes nothing.
 use mathlib.Core.Path.{_≡_, refl, sym, ap, ap₂, _∙_}
 use mathlib.Core.List.{List, [], _∷_, _++_}
-use Prim.Native.Nat.{ℕ, zero, suc, _+_, _*_, _-_, _/_, _%_, _≤_, _<_}
+use Prim.Native.Nat.{ℕ, zero, suc, _+_, _*_, _-_, _%_, _≤_, _<_}
 use native.Mathlib.Nat.{le-of-suc-le-suc}
 use native.Mathlib.Omega.{arith}
 use lib.ListN.{length, getD, length-append}
@@ -13,18 +13,7 @@ use Rattle.rules.specs.Step.{Event}
 use Rattle.rules_laws.specs.All.{All}
 use Rattle.any_list.specs.Tables.{table-of}
 use Rattle.run_lists.specs.EventList.{trailerLength, longest, byteAt, numberAt, trailerAt, firstRecord, recordCount, nodeCount, refusal, eventAt, recordAt, records}
-
--- Kind and node of each.
-unfoldable pub flat : List Event → List ℕ
-flat [] = []
-flat (e ∷ es) = e .kind % 256 ∷ e .node % 256 ∷ flat es
-
--- The trailer: the first record at 0, so many of them, and the node count.
-abbrev pub trailerBytes : ℕ → ℕ → List ℕ
-trailerBytes n count = 0 ∷ 0 ∷ 0 ∷ 0 ∷ n % 256 ∷ n / 256 ∷ 0 ∷ 0 ∷ count ∷ 0 ∷ 77 ∷ 65 ∷ []
-
-abbrev pub listOf : ℕ → List Event → List ℕ
-listOf count es = flat es ++ trailerBytes (length es) count
+use Rattle.run_lists.specs.Listed.{flat, trailerBytes, listOf}
 
 -- Kind and node fit a byte.
 abbrev pub Small : Event → Type 0

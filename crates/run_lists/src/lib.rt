@@ -4,7 +4,7 @@ ghost use Prim.Native.Nat.{_+_, _*_, _≤_, _<_};
 ghost use lib.ListN.{length};
 ghost use lib.Seq.{sets};
 ghost use Rattle.run_lists.specs.EventList.{byteAt, numberAt, refusal, eventAt, recordAt, firstRecord, entryBytes};
-ghost use Rattle.run_lists.specs.Made.{trailerBytes};
+ghost use Rattle.run_lists.specs.Listed.{trailerBytes};
 ghost use Rattle.run_lists.specs.Reads.{eventOf, trailerOf};
 ghost use Rattle.run_lists.specs.Entries.{entryAt};
 ghost use Rattle.step_parts.specs.Hold.{holdWrite};

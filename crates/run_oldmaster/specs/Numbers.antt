@@ -14,7 +14,9 @@ use Rattle.any_text.specs.Decimal.{digit, decimal, saidAfter}
 use Rattle.any_text.specs.Lines.{blank, newline, number, recordLine, writesLine, writeLine}
 use Rattle.any_text.specs.Digits.{Digits, end, next, only-digits, says-itself}
 use Rattle.run_lists.specs.Entries.{noWrite}
-use Rattle.run_lines.specs.RunText.{lines, runText}
+use Rattle.any_text.specs.Line.{lines}
+use Rattle.any_text.specs.Lined.{lines-first}
+use Rattle.run_lines.specs.RunText.{runText}
 
 -- A byte that is no digit ends a number; `so-far` is what the digits before have said.
 unfoldable numbers : ℕ → List ℕ → List ℕ
@@ -77,11 +79,6 @@ flat-same (w ∷ ws) [] e = let z : _≡_ {A = ℕ} 0 1 = cc in absurd (omega ar
 flat-same (w ∷ ws) (v ∷ vs) e =
     let write : ℕ → ℕ → Write = λ n t. record { node = n; term = t } in
     ap₂ (λ (x : Write) (xs : List Write). x ∷ xs) (ap₂ write (cc) (cc)) (flat-same ws vs (cc))
-
-lines-first : (f : ℕ → List ℕ) (n : ℕ) → lines f (suc n) ≡ f 0 ++ lines (λ i. f (suc i)) n
-unfolding lines
-lines-first f zero = sym (append-nil (f 0))
-lines-first f (suc n) = ap (λ (l : List ℕ). l ++ f (suc n)) (lines-first f n) ∙ append-assoc (f 0) (lines (λ i. f (suc i)) n) (f (suc n))
 
 -- Of the lines of the writes.
 flat-lines : (ws : List Write) → lines (λ i. getD ws i noWrite .node ∷ getD ws i noWrite .term ∷ []) (length ws) ≡ flat ws

@@ -11,7 +11,7 @@ use Rattle.any_text.specs.Lines.{writesLine}
 use Rattle.run_lists.specs.Written.{entry-read}
 use Rattle.run_lines.specs.RunText.{recordLineAt, lineOf, runText}
 use Rattle.run_lines.specs.Bytes.{bytesText}
-use Rattle.run_lines.specs.Lines.{lines-same}
+use Rattle.any_text.specs.Lined.{lines-same}
 
 module _ (list answers : List ℕ) (ws : List Write) (rest : List ℕ) (all : length answers ≡ recordCount list) where
   part : drop (recordCount list) (answers ++ historyBytes ws ++ rest) ≡ historyBytes ws ++ rest

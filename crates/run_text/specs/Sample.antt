@@ -6,7 +6,8 @@ use Rattle.rules_laws.specs.Computed.{computed}
 use Rattle.run_lists.specs.EventList as EventList
 use Rattle.any_text.specs.Decimal as Decimal
 use Rattle.any_text.specs.Lines as Lines
-use Rattle.run_lines.specs.RunText.{lines, runText}
+use Rattle.any_text.specs.Line.{lines}
+use Rattle.run_lines.specs.RunText.{runText}
 use Rattle.run_text.specs.Transcript.{transcript}
 
 abbrev listed : List ℕ

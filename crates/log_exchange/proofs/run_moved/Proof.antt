@@ -9,7 +9,8 @@ use Rattle.any_list.specs.Tables.{table-length}
 use Rattle.run.specs.Ran.{noWrites}
 use Rattle.any_text.specs.Puts.{put-length}
 use Rattle.run_difference.specs.Runs.{Written}
-use Rattle.run_lists.specs.Made.{listOf, list-length}
+use Rattle.run_lists.specs.Listed.{listOf}
+use Rattle.run_lists.specs.Made.{list-length}
 use Rattle.log_exchange.specs.Filling.{stepAt, list-read}
 use Rattle.log_exchange.specs.Ran.{ran-list}
 use borrow.Author.Needs.{needs}

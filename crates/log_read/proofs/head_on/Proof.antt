@@ -5,7 +5,7 @@ use native.Mathlib.Omega.{arith}
 use lib.Dec.{leb}
 use borrow.Author.Tests.{leb-true}
 use Rattle.log_read.specs.Log.{headOn}
-use Rattle.log_read.specs.Numbers.{both-true}
+use Rattle.any_words.specs.Numbers.{both-true}
 use Rattle.log_read.specs.Reads.{head-within, head-outside}
 use borrow.Author.Needs.{needs}
 use Rattle.log_read.proofs.head_on.Statement.{statement}

@@ -1,7 +1,5 @@
 -- `read_log` meets its contract. Assumes nothing.
-use mathlib.Core.Path.{ap, _∙_}
 use Prim.Native.Nat.{_+_, _-_}
-use native.Mathlib.Omega.{arith}
 use lib.ListN.{length}
 use borrow.Author.Tests.{not-true, not-false}
 use Rattle.log_read.specs.Reads.{Skipping, skipping-starts, skipping-ends, head-bad, head-good, skipping-more}
@@ -20,8 +18,8 @@ loop-holds : tie.Need-loop-holds Inv-loop μ-loop
 loop-holds c = skipping-starts _ _
 
 -- src/lib.rt:288:13
-line-end-requires : tie.Need-line-end-requires Inv-loop μ-loop
-line-end-requires c κs = search needs
+next-byte-requires : tie.Need-next-byte-requires Inv-loop μ-loop
+next-byte-requires c κs = search needs
 
 -- src/lib.rt:289:36
 sub-line-of : tie.Need-sub-line-of Inv-loop μ-loop
@@ -57,11 +55,11 @@ read-rows-requires c κs = search needs
 
 -- src/lib.rt:292:13
 returns : tie.Need-returns Inv-loop μ-loop
-returns c = head-good (c .before .before .before .before .before .before .before .before .loop .inv) (c .before .before .before .before .before .before .before .loop-test .taken) (c .before .before .before .before .before .before .line-end .ensures) (c .before .before .before .before .line-of .ensures) (c .before .before .before .head-on .ensures) (c .before .before .if1 .taken) (c .read-rows .ensures)
+returns c = head-good (c .before .before .before .before .before .before .before .before .loop .inv) (c .before .before .before .before .before .before .before .loop-test .taken) (c .before .before .before .before .before .before .next-byte .ensures) (c .before .before .before .before .line-of .ensures) (c .before .before .before .head-on .ensures) (c .before .before .if1 .taken) (c .read-rows .ensures)
 
 -- src/lib.rt:300:13
 returns-2 : tie.Need-returns-2 Inv-loop μ-loop
-returns-2 c = head-bad (c .before .before .before .before .before .before .before .before .loop .inv) (c .before .before .before .before .before .before .before .loop-test .taken) (c .before .before .before .before .before .before .line-end .ensures) (c .before .before .before .before .line-of .ensures) (c .before .before .before .head-on .ensures) (c .before .before .if1 .left) (not-true _ (c .if2 .taken))
+returns-2 c = head-bad (c .before .before .before .before .before .before .before .before .loop .inv) (c .before .before .before .before .before .before .before .loop-test .taken) (c .before .before .before .before .before .before .next-byte .ensures) (c .before .before .before .before .line-of .ensures) (c .before .before .before .head-on .ensures) (c .before .before .if1 .left) (not-true _ (c .if2 .taken))
 
 -- src/lib.rt:307:14
 add-at : tie.Need-add-at Inv-loop μ-loop
@@ -77,7 +75,7 @@ loop-less c = search needs
 
 -- src/lib.rt:287:5
 loop-again : tie.Need-loop-again Inv-loop μ-loop
-loop-again c = skipping-more (c .before .before .before .before .before .before .before .before .loop .inv) (c .before .before .before .before .before .before .before .loop-test .taken) (c .before .before .before .before .before .before .line-end .ensures) (c .before .before .before .before .line-of .ensures) (c .before .before .before .head-on .ensures) (not-false _ (c .if2 .left))
+loop-again c = skipping-more (c .before .before .before .before .before .before .before .before .loop .inv) (c .before .before .before .before .before .before .before .loop-test .taken) (c .before .before .before .before .before .before .next-byte .ensures) (c .before .before .before .before .line-of .ensures) (c .before .before .before .head-on .ensures) (not-false _ (c .if2 .left))
 
 -- src/lib.rt:280:1
 returns-3 : tie.Need-returns-3 Inv-loop μ-loop
@@ -90,7 +88,7 @@ read-log-spec =
     Inv-loop
     μ-loop
     loop-holds
-    line-end-requires
+    next-byte-requires
     sub-line-of
     part-line-of-start
     part-line-of-end

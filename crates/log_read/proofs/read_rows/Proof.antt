@@ -20,8 +20,8 @@ loop-holds : tie.Need-loop-holds Inv-loop μ-loop
 loop-holds c = going-starts _ _ _ _ (c .before .before .pre .1) (c .before .before .pre .2)
 
 -- src/lib.rt:213:13
-line-end-requires : tie.Need-line-end-requires Inv-loop μ-loop
-line-end-requires c κs = search needs
+next-byte-requires : tie.Need-next-byte-requires Inv-loop μ-loop
+next-byte-requires c κs = search needs
 
 -- src/lib.rt:214:39
 sub-line-of : tie.Need-sub-line-of Inv-loop μ-loop
@@ -49,7 +49,7 @@ same-length c = ap length (c .before .before .before .before .take-line .ensures
 
 -- src/lib.rt:216:13
 returns : tie.Need-returns Inv-loop μ-loop
-returns c = going-stops (c .before .before .before .before .before .before .before .before .before .before .loop .inv) (c .before .before .before .before .before .before .before .before .before .loop-test .taken) (c .before .before .before .before .before .before .before .before .line-end .ensures) (c .before .before .before .before .before .before .line-of .ensures) (c .before .before .before .before .take-line .ensures) (not-true _ (c .if1 .taken))
+returns c = going-stops (c .before .before .before .before .before .before .before .before .before .before .loop .inv) (c .before .before .before .before .before .before .before .before .before .loop-test .taken) (c .before .before .before .before .before .before .before .before .next-byte .ensures) (c .before .before .before .before .before .before .line-of .ensures) (c .before .before .before .before .take-line .ensures) (not-true _ (c .if1 .taken))
 
 -- src/lib.rt:222:14
 add-at : tie.Need-add-at Inv-loop μ-loop
@@ -65,7 +65,7 @@ loop-less c = search needs
 
 -- src/lib.rt:212:5
 loop-again : tie.Need-loop-again Inv-loop μ-loop
-loop-again c = going-more (c .before .before .before .before .before .before .before .before .before .before .loop .inv) (c .before .before .before .before .before .before .before .before .before .loop-test .taken) (c .before .before .before .before .before .before .before .before .line-end .ensures) (c .before .before .before .before .before .before .line-of .ensures) (c .before .before .before .before .take-line .ensures) (not-false _ (c .if1 .left))
+loop-again c = going-more (c .before .before .before .before .before .before .before .before .before .before .loop .inv) (c .before .before .before .before .before .before .before .before .before .loop-test .taken) (c .before .before .before .before .before .before .before .before .next-byte .ensures) (c .before .before .before .before .before .before .line-of .ensures) (c .before .before .before .before .take-line .ensures) (not-false _ (c .if1 .left))
 
 -- src/lib.rt:205:1
 same-length-2 : tie.Need-same-length-2 Inv-loop μ-loop
@@ -82,7 +82,7 @@ read-rows-spec =
     Inv-loop
     μ-loop
     loop-holds
-    line-end-requires
+    next-byte-requires
     sub-line-of
     part-line-of-start
     part-line-of-end

@@ -4,7 +4,7 @@ use mathlib.Core.Bool.{true, false, true≢false}
 use Prim.Native.Nat.{_<_}
 use native.Mathlib.Omega.{arith}
 use borrow.Author.Tests.{ltb-true}
-use Rattle.log_read.specs.Numbers.{first-true}
+use Rattle.any_words.specs.Numbers.{first-true}
 use Rattle.log_read.specs.Log.{fits, rowOn}
 use Rattle.log_read.specs.Reads.{took-none, took-bad, took-row}
 use borrow.Author.Needs.{needs}

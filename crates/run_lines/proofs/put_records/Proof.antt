@@ -9,7 +9,7 @@ use Rattle.any_text.specs.Lines.{recordLine}
 use Rattle.any_text.specs.Puts.{put-length}
 use Rattle.any_text.specs.Widths.{record-line-width}
 use Rattle.run_lines.specs.RunText.{recordLineAt}
-use Rattle.run_lines.specs.Lines.{Lined, lined-none, lined-more, lined-room}
+use Rattle.any_text.specs.Lined.{Lined, lined-none, lined-more, lined-room}
 use Rattle.run_lines.proofs.put_records.Statement.{statement}
 use Rattle.run_lines.proofs.put_records.Tie as tie
 

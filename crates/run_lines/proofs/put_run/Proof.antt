@@ -14,7 +14,7 @@ use Rattle.any_text.specs.Widths.{writes-line-width}
 use Rattle.run_lists.specs.EventList.{recordCount}
 use Rattle.run_lines.specs.RunText.{recordLineAt}
 use Rattle.run_lines.specs.Bytes.{entryLineAt, bytesText, longestText}
-use Rattle.run_lines.specs.Lines.{Lined}
+use Rattle.any_text.specs.Lined.{Lined}
 use Rattle.run_lines.proofs.put_run.Statement.{statement}
 use Rattle.run_lines.proofs.put_run.Tie as tie
 

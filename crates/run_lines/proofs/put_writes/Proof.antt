@@ -9,7 +9,7 @@ use Rattle.any_text.specs.Puts.{put-length}
 use Rattle.any_text.specs.Widths.{write-line-width}
 use Rattle.run_lines.specs.RunText.{lineOf}
 use Rattle.run_lines.specs.Bytes.{entryLineAt}
-use Rattle.run_lines.specs.Lines.{Lined, lined-none, lined-more, lined-room}
+use Rattle.any_text.specs.Lined.{Lined, lined-none, lined-more, lined-room}
 use Rattle.run_lines.proofs.put_writes.Statement.{statement}
 use Rattle.run_lines.proofs.put_writes.Tie as tie
 

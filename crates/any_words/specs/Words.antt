@@ -10,10 +10,8 @@ use native.Mathlib.Decide.{decLt}
 use borrow.Author.Tests.{not-false}
 use lib.ListN.{length, getD, take, drop, length-drop, drop-of-length-le}
 use lib.Seq.{getD-drop, drop-drop, drop-cons, take-all}
-use Rattle.rules.specs.Queues.{empty}
-use Rattle.merge_verdict.specs.Pairs.{only}
 use Rattle.any_search.specs.Seek.{Sought}
-use Rattle.log_read.specs.Text.{isBlank, cut, pieces, words}
+use Rattle.any_words.specs.Text.{isBlank, cut, pieces, full, words}
 
 -- Whether the byte at a place is blank, as asked for.
 abbrev pub blankIs : Bool → List ℕ → ℕ → Bool
@@ -45,8 +43,8 @@ module _ (test : ℕ → Bool) where
 -- ---- words
 
 blank-first : (b : ℕ) (l : List ℕ) → isBlank b ≡ true → words (b ∷ l) ≡ words l
-unfolding pieces empty
-blank-first b l e = ap (λ (x : Bool). only (λ w. not (empty w)) (cut x b (pieces isBlank l))) e
+unfolding pieces
+blank-first b l e = ap (λ (x : Bool). full (cut x b (pieces isBlank l))) e
 
 -- Blanks in front do not matter.
 pub words-skip : (l : List ℕ) (r : ℕ) → r ≤ length l → ((k : ℕ) → k < r → isBlank (getD l k 0) ≡ true) → words l ≡ words (drop r l)
@@ -57,15 +55,15 @@ words-skip (b ∷ l) (suc r) h f = blank-first b l (f 0 (omega arith)) ∙ words
 -- The first word reaches to the next blank, or to the end.
 module _ (b : ℕ) (l : List ℕ) (r : ℕ) (h : r ≤ length l) (f : (k : ℕ) → k < suc r → isBlank (getD (b ∷ l) k 0) ≡ false) where
   word-behind : r < length l → isBlank (getD l r 0) ≡ true → words (b ∷ l) ≡ (b ∷ take r l) ∷ words (drop r l)
-  unfolding pieces empty
+  unfolding pieces
   word-behind k e =
-      ap (only (λ w. not (empty w))) (first-piece isBlank (b ∷ l) (suc r) f (omega arith) e)
+      ap full (first-piece isBlank (b ∷ l) (suc r) f (omega arith) e)
       ∙ ap (λ (ws : List (List ℕ)). (b ∷ take r l) ∷ ws) (sym (rw (drop-cons l r 0 k) (blank-first (getD l r 0) (drop (suc r) l) e)))
 
   word-last : length l ≤ r → words (b ∷ l) ≡ (b ∷ take r l) ∷ words (drop r l)
-  unfolding pieces empty
+  unfolding pieces
   word-last k =
-      ap (only (λ w. not (empty w))) (only-piece isBlank (b ∷ l) (λ j i. f j (omega arith)))
+      ap full (only-piece isBlank (b ∷ l) (λ j i. f j (omega arith)))
       ∙ rw (take-all r l k, drop-of-length-le l k)
 
 pub words-first : (l : List ℕ) (r : ℕ) → 0 < r → r ≤ length l → ((k : ℕ) → k < r → isBlank (getD l k 0) ≡ false) → (r < length l → isBlank (getD l r 0) ≡ true)

@@ -1,19 +1,19 @@
--- `line_end` meets its contract. Assumes nothing.
+-- `next_byte` meets its contract. Assumes nothing.
 use Prim.Native.Nat.{_-_}
+use lib.Dec.{eqb}
 use lib.ListN.{length, getD}
 use borrow.Author.Tests.{eq-eqb, ne-eqb}
 use Rattle.any_search.specs.Seek.{Seeking, seek-starts, seek-more, seek-hits, seek-ends}
-use Rattle.log_read.specs.Text.{isNewline}
 use borrow.Author.Needs.{needs}
 use native.Mathlib.Omega.{arith}
-use Rattle.log_read.proofs.line_end.Statement.{statement}
-use Rattle.log_read.proofs.line_end.Tie as tie
+use Rattle.any_words.proofs.next_byte.Statement.{statement}
+use Rattle.any_words.proofs.next_byte.Tie as tie
 
 abbrev Inv-loop : tie.InvT-loop
-Inv-loop text start i₀ i = Seeking (λ k. isNewline (getD text k 0)) start (length text) i
+Inv-loop text start byte i₀ i = Seeking (λ k. eqb (getD text k 0) byte) start (length text) i
 
 abbrev μ-loop : tie.MeasureT-loop
-μ-loop text start i₀ i = length text - i
+μ-loop text start byte i₀ i = length text - i
 
 loop-holds : tie.Need-loop-holds Inv-loop μ-loop
 loop-holds c = seek-starts (omega arith)
@@ -36,8 +36,8 @@ loop-again c = seek-more (c .before .before .before .loop .inv) (c .before .befo
 returns-2 : tie.Need-returns-2 Inv-loop μ-loop
 returns-2 c = seek-ends (c .before .loop .inv) (c .loop-test .left)
 
-pub line-end-spec : {M : Type 1} → statement M
-line-end-spec =
+pub next-byte-spec : {M : Type 1} → statement M
+next-byte-spec =
     tie.close
     (tie.spec
     Inv-loop

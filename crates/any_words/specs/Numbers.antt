@@ -12,8 +12,8 @@ use lib.Seq.{drop-cons, drop-length}
 use borrow.Author.Tests.{le-leb, lt-leb, leb-true}
 use Rattle.rules.specs.Range.{all}
 use Rattle.any_text.specs.Decimal.{saidAfter}
-use Rattle.log_read.specs.declared.Number.the-variants.{Value, Bad}
-use Rattle.log_read.specs.Text.{isDigit, numberOf}
+use Rattle.any_words.specs.declared.Number.the-variants.{Value, Bad}
+use Rattle.any_words.specs.Text.{isDigit, numberOf}
 
 pub first-true : (a b : Bool) → a && b ≡ true → a ≡ true
 first-true true b e = refl

@@ -3,11 +3,11 @@ use mathlib.Core.Path.{sym, _∙_}
 use Prim.Native.Nat.{_-_}
 use lib.ListN.{length}
 use Rattle.any_search.specs.Seek.{Seeking, seek-starts, seek-more, seek-hits, seek-ends}
-use Rattle.log_read.specs.Words.{blankIs, blank-asked}
+use Rattle.any_words.specs.Words.{blankIs, blank-asked}
 use borrow.Author.Needs.{needs}
 use native.Mathlib.Omega.{arith}
-use Rattle.log_read.proofs.next_where.Statement.{statement}
-use Rattle.log_read.proofs.next_where.Tie as tie
+use Rattle.any_words.proofs.next_where.Statement.{statement}
+use Rattle.any_words.proofs.next_where.Tie as tie
 
 abbrev Inv-loop : tie.InvT-loop
 Inv-loop line start blank i₀ i = Seeking (blankIs blank line) start (length line) i

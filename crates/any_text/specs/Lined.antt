@@ -1,19 +1,24 @@
 -- Lines put into a buffer one behind the other, none longer than `most` bytes. Assumes nothing.
-use mathlib.Core.Path.{_≡_, refl, ap₂}
-use mathlib.Core.List.{List, _++_}
+use mathlib.Core.Path.{_≡_, refl, sym, ap, ap₂, _∙_}
+use mathlib.Core.List.{List, _++_, append-assoc, append-nil}
 use Prim.Native.Nat.{ℕ, zero, suc, _+_, _*_, _≤_, _<_}
 use native.Mathlib.Nat.{mul-le-mul-left, mul-suc}
 use native.Mathlib.Numerals.{add-one}
 use native.Mathlib.Omega.{arith}
 use lib.ListN.{length}
 use Rattle.any_text.specs.Put.{Room, Put}
 use Rattle.any_text.specs.Puts.{put-none, put-then, put-length}
-use Rattle.run_lines.specs.RunText.{lines}
+use Rattle.any_text.specs.Line.{lines}
 
 pub lines-same : (f g : ℕ → List ℕ) (n : ℕ) → ((i : ℕ) → i < n → f i ≡ g i) → lines f n ≡ lines g n
 unfolding lines
 lines-same f g zero h = refl
 lines-same f g (suc n) h = ap₂ (λ (a b : List ℕ). a ++ b) (lines-same f g n (λ i k. h i (omega arith))) (h n (omega arith))
+
+pub lines-first : (f : ℕ → List ℕ) (n : ℕ) → lines f (suc n) ≡ f 0 ++ lines (λ i. f (suc i)) n
+unfolding lines
+lines-first f zero = sym (append-nil (f 0))
+lines-first f (suc n) = ap (λ (l : List ℕ). l ++ f (suc n)) (lines-first f n) ∙ append-assoc (f 0) (lines (λ i. f (suc i)) n) (f (suc n))
 
 -- The first n lines are put from the place `at` on.
 pub record Lined (f : ℕ → List ℕ) (most : ℕ) (before : List ℕ) (at n : ℕ) (after : List ℕ) (next : ℕ) : Type 0 where

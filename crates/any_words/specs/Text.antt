@@ -1,18 +1,13 @@
 -- The lines of a text, the words of a line, and the numbers that words say.
-use mathlib.Core.Bool.{Bool, true, false, cond, not, _&&_, _||_}
-use mathlib.Core.Option.{Option, none, some}
+use mathlib.Core.Bool.{Bool, true, false, cond, _&&_, _||_}
 use mathlib.Core.List.{List, [], _∷_}
 use Prim.Native.Nat.{ℕ}
 use lib.Dec.{eqb, leb}
 use lib.ListN.{length}
-use Rattle.rules.specs.Queues.{empty}
 use Rattle.rules.specs.Range.{all}
-use Rattle.merge_verdict.specs.Pairs.{only}
 use Rattle.any_text.specs.Decimal.{saidAfter}
-use Rattle.log_read.specs.declared.Number.{Number}
-use Rattle.log_read.specs.declared.Number.the-variants.{Value, Bad}
-use Rattle.log_read.specs.declared.Line.{Line}
-use Rattle.log_read.specs.declared.Line.the-variants.{Blank, Two, Four, Other}
+use Rattle.any_words.specs.declared.Number.{Number}
+use Rattle.any_words.specs.declared.Number.the-variants.{Value, Bad}
 
 -- ---- bytes
 
@@ -42,33 +37,17 @@ pieces test (b ∷ l) = cut (test b) b (pieces test l)
 abbrev pub lines : List ℕ → List (List ℕ)
 lines text = pieces isNewline text
 
+-- The pieces that are not empty.
+abbrev pub full : List (List ℕ) → List (List ℕ)
+full [] = []
+full ([] ∷ ps) = full ps
+full ((b ∷ p) ∷ ps) = (b ∷ p) ∷ full ps
+
 abbrev pub words : List ℕ → List (List ℕ)
-words line = only (λ w. not (empty w)) (pieces isBlank line)
+words line = full (pieces isBlank line)
 
 -- ---- numbers
 
 -- A word of at most 19 digits.
 unfoldable pub numberOf : List ℕ → Number
 numberOf w = cond (leb (length w) 19 && all isDigit w) (Value (saidAfter 0 w)) Bad
-
-abbrev pub before : Number → Option (List ℕ) → Option (List ℕ)
-before (Value n) (some ns) = some (n ∷ ns)
-before (Value n) none = none
-before Bad o = none
-
--- All of them, unless one is bad.
-abbrev pub numbers : List (List ℕ) → Option (List ℕ)
-numbers [] = some []
-numbers (w ∷ ws) = before (numberOf w) (numbers ws)
-
-abbrev pub sorted : Option (List ℕ) → Line
-sorted none = Other
-sorted (some []) = Blank
-sorted (some (a ∷ [])) = Other
-sorted (some (a ∷ b ∷ [])) = Two a b
-sorted (some (a ∷ b ∷ c ∷ [])) = Other
-sorted (some (a ∷ b ∷ c ∷ d ∷ [])) = Four a b c d
-sorted (some (a ∷ b ∷ c ∷ d ∷ e ∷ l)) = Other
-
-unfoldable pub lineOf : List ℕ → Line
-lineOf line = sorted (numbers (words line))

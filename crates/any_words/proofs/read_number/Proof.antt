@@ -3,11 +3,11 @@ use mathlib.Core.Path.{sym, _∙_}
 use Prim.Native.Nat.{_-_}
 use lib.ListN.{length}
 use borrow.Author.Tests.{not-true, not-false}
-use Rattle.log_read.specs.Numbers.{Said, too-long, said-none, said-bad, is-digit, said-fits, said-more, said-all}
+use Rattle.any_words.specs.Numbers.{Said, too-long, said-none, said-bad, is-digit, said-fits, said-more, said-all}
 use borrow.Author.Needs.{needs}
 use native.Mathlib.Omega.{arith}
-use Rattle.log_read.proofs.read_number.Statement.{statement}
-use Rattle.log_read.proofs.read_number.Tie as tie
+use Rattle.any_words.proofs.read_number.Statement.{statement}
+use Rattle.any_words.proofs.read_number.Tie as tie
 
 abbrev Inv-loop : tie.InvT-loop
 Inv-loop word value₀ i₀ value i = Said word value i
