@@ -1,6 +1,7 @@
 # make try               run the sample with nothing proved, in seconds
 # make run [LIST=file]   prove and build the program, then run an event list (hex text or bytes)
-# make programs          prove and build all programs: target/bin/replay, compare, merges, arbitration, captured
+# make programs          prove and build all programs: target/bin/replay, compare, merges, arbitration, captured,
+#                        write_list, read_list
 # make test              the gate: every proof, every must-fail edit, every test
 # make lib               target/staticlib/libhoefspanker.a for a C host
 # make install PREFIX=   the library, its header, its pkg-config file and the programs
@@ -9,7 +10,7 @@
 LIST ?= examples/sample.hex
 PREFIX ?= /usr/local
 DESTDIR ?=
-PROGRAMS = replay compare merges arbitration captured
+PROGRAMS = replay compare merges arbitration captured write_list read_list
 LIBRARY = target/staticlib/libhoefspanker.a
 VERSION := $(shell sed -n 's/^.define HOEFSPANKER_VERSION "\(.*\)"$$/\1/p' include/hoefspanker.h)
 
@@ -45,6 +46,7 @@ install: programs $(LIBRARY)
 	install -d "$(DESTDIR)$(PREFIX)/bin" "$(DESTDIR)$(PREFIX)/include" "$(DESTDIR)$(PREFIX)/lib/pkgconfig"
 	install -m 755 target/bin/replay target/bin/compare target/bin/arbitration target/bin/captured "$(DESTDIR)$(PREFIX)/bin"
 	install -m 755 target/bin/merges "$(DESTDIR)$(PREFIX)/bin/merges"
+	install -m 755 target/bin/write_list target/bin/read_list "$(DESTDIR)$(PREFIX)/bin"
 	install -m 644 include/hoefspanker.h "$(DESTDIR)$(PREFIX)/include"
 	install -m 644 $(LIBRARY) "$(DESTDIR)$(PREFIX)/lib"
 	sed -e 's|@PREFIX@|$(PREFIX)|' -e 's|@VERSION@|$(VERSION)|' include/hoefspanker.pc.in >"$(DESTDIR)$(PREFIX)/lib/pkgconfig/hoefspanker.pc"

@@ -12,6 +12,8 @@ if ! git rev-parse --quiet --verify "${1:-}^{commit}" >/dev/null; then
     exit 2
 fi
 rm -rf "$out" && mkdir -p "$earlier" || exit 1
+# What the revision does not have yet is today's.
+cp -r host "$earlier" || exit 1
 git archive "$1" host | tar -x -C "$earlier" || exit 1
 shift
 build_reference && build_reading && build_judge &&

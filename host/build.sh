@@ -41,7 +41,8 @@ rust_program() {
 rust_linked() {
     rust -L "$out" -L "native=$out/lib" \
         --extern random --extern reference --extern lists --extern library --extern trial \
-        --extern reading --extern messages --extern calls --extern judge --extern pairs "$@"
+        --extern reading --extern messages --extern calls --extern judge --extern pairs \
+        --extern writer "$@"
 }
 
 # stand_in HOST FOLDER: the references of HOST, which is laid out as host, under
@@ -52,6 +53,7 @@ stand_in() {
     stand_in_crate "$2" --cap-lints allow --crate-type rlib "$1/reference/lib.rs" &&
         stand_in_crate "$2" --cap-lints allow --crate-type rlib "$1/arbitration/reading/lib.rs" &&
         stand_in_crate "$2" --cap-lints allow --crate-type rlib "$1/verdict/judge/lib.rs" &&
+        stand_in_crate "$2" --cap-lints allow --crate-type rlib "$1/writing/writer/lib.rs" &&
         stand_in_crate "$2" --crate-type staticlib host/standin/hoefspanker.rs
 }
 
@@ -68,7 +70,7 @@ stand_in_crate() {
     eval "source=\${$#}"
     [ "$(basename "$source")" != lib.rs ] || source=$(dirname "$source")
     rust -C metadata=stand-in --crate-name "$(basename "$source" .rs)" --out-dir "$into" \
-        -L "$into" --extern reference --extern reading --extern judge "$@"
+        -L "$into" --extern reference --extern reading --extern judge --extern writer "$@"
 }
 
 # Puts a library where the programs link it from.
@@ -113,3 +115,4 @@ build_header() {
 
 . host/arbitration/build.sh
 . host/verdict/build.sh
+. host/writing/build.sh

@@ -2,7 +2,8 @@
 # Shows that the comparisons find wrong libraries: each line of a table puts one
 # mistake into a copy of a reference, which then stands in for the library.
 # Prints a line a mistake and 'N found, M missed'. Takes some minutes.
-# Usage: host/mutants.sh [lists] [messages] [frames] [verdicts] [logs], by default all.
+# Usage: host/mutants.sh [lists] [messages] [frames] [verdicts] [logs] [writing], by default
+# all.
 set -u
 cd "$(dirname "$0")/.." || exit 1
 . host/build.sh
@@ -59,6 +60,17 @@ run_mutant_programs() {
         "$out/programs" merges "$mutant/merges" "$out/scratch"
 }
 
+# The writer with the mistake in it, as a library and as programs.
+build_mutant_writer() {
+    build_compare_writing && stand_in_program write_list "$mutant" &&
+        stand_in_program read_list "$mutant" && build_list_programs
+}
+
+run_mutant_writer() {
+    "$out/compare-writing" 1 10000 &&
+        "$out/list-programs" "$mutant/write_list" "$mutant/read_list"
+}
+
 try_part() {
     case $1 in
     lists)
@@ -80,6 +92,10 @@ try_part() {
         try_mistakes host/verdict/log-mutants.txt host/verdict/judge build_mutant_programs \
             run_mutant_programs
         ;;
+    writing)
+        try_mistakes host/writing/mutants.txt host/writing/writer build_mutant_writer \
+            run_mutant_writer
+        ;;
     *)
         echo "no such part: $1"
         exit 1
@@ -88,8 +104,8 @@ try_part() {
 }
 
 mkdir -p "$out"
-build_reference && build_reading && build_judge || exit 1
-for part in ${*:-lists messages frames verdicts logs}; do
+build_reference && build_reading && build_judge && build_writer || exit 1
+for part in ${*:-lists messages frames verdicts logs writing}; do
     try_part "$part"
 done
 echo "$found found, $missed missed"

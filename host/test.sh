@@ -66,7 +66,8 @@ build_library() {
         programs=$out/stand-in
         stand_in host "$programs" && stand_in_program arbitration "$programs" &&
             stand_in_program captured "$programs" && stand_in_program compare "$programs" &&
-            stand_in_program merges "$programs" &&
+            stand_in_program merges "$programs" && stand_in_program write_list "$programs" &&
+            stand_in_program read_list "$programs" &&
             use_library "$programs/libhoefspanker.a"
     else
         use_library "$library"
@@ -106,14 +107,15 @@ prepare() {
     need protoc protobuf-compiler
     need tshark tshark
     need_grpc
-    build_reference && build_reading && build_judge && build_programs && build_captures &&
-        touch "$out/prepared"
+    build_reference && build_reading && build_judge && build_writer && build_programs &&
+        build_captures && build_list_programs && touch "$out/prepared"
 }
 
 the_references() {
     test_that "unit tests of the reference" "$out/reference-test"
     test_that "unit tests of the reading" "$out/reading-test"
     test_that "unit tests of the judge" "$out/judge-test"
+    test_that "unit tests of the writer" "$out/writer-test"
 }
 
 comparisons() {
@@ -141,6 +143,10 @@ the_example() {
     test_example sanitizers "$out/host-sanitized"
     test_that "C++ header built" build_header
     test_that "C++ header run" "$out/header"
+    test_that "comparison of writing built" build_compare_writing
+    test_that "comparison with the writer" "$out/compare-writing"
+    test_that "programs for texts of lists" "$out/list-programs" "$programs/write_list" \
+        "$programs/read_list"
 }
 
 the_measurement() {

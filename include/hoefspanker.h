@@ -1,6 +1,7 @@
 /* Runs a list of P4Runtime mastership arbitration events: 1 to 8 controller
  * nodes, one election service and one switch, from a fresh state. And reads
- * captured arbitration messages, alone or in the frames of a stream.
+ * captured arbitration messages, alone or in the frames of a stream; and writes
+ * event lists.
  *
  * Link with libhoefspanker.a. The library needs no start-up call, allocates
  * nothing, keeps nothing between calls and may be called from any thread. */
@@ -64,7 +65,8 @@
 #define HOEFSPANKER_BAD_MARK 9         /* last two bytes not 4D 41, or the zero byte not 0 */
 #define HOEFSPANKER_BAD_NODE_COUNT 10  /* node count not 1 to 8 */
 #define HOEFSPANKER_BAD_EXTENT 11      /* first + 2 * records + 12 is not the length */
-#define HOEFSPANKER_OUT_TOO_SHORT 12   /* output shorter than records + 4,096 bytes; of places, than 8 */
+#define HOEFSPANKER_OUT_TOO_SHORT 12   /* output shorter than records + 4,096 bytes; of places, than 8;
+                                          of a list that is written, than the list */
 
 /* Verdicts on two lists as merges of the same logs. */
 #define HOEFSPANKER_SAME 256        /* the same writes are accepted, each record keeps its answer */
@@ -82,6 +84,10 @@
 
 /* The least number that a run returns: this one plus the number of writes. */
 #define HOEFSPANKER_RAN 256
+
+/* The least number that the call returns that writes a list: this one plus the
+ * length of the list. */
+#define HOEFSPANKER_WROTE 256
 
 /* The fields of an arbitration message, MasterArbitrationUpdate of
  * p4runtime.proto 1.0.0, are put as 40 bytes, numbers with the least byte
@@ -224,6 +230,30 @@ uint32_t hoefspanker_read_frame(const uint8_t *capture, size_t capture_len,
 uint32_t hoefspanker_same_merge(const uint8_t *first, size_t first_len,
                                 const uint8_t *second, size_t second_len,
                                 uint8_t *places, size_t places_len);
+
+/* Writes the event list of so many nodes and of the steps in the `steps_len`
+ * bytes at `steps`, kind and node of each, to the `out_len` bytes at `out`.
+ *
+ * Requires: the same as above, of `steps` and `out`. The node count may be any
+ * number, and the bytes may be anything.
+ *
+ * Returns, if the list is written: HOEFSPANKER_WROTE plus its length L, which is
+ * `steps_len` plus 12. The first L bytes of `out` are the steps, as they are, and
+ * a trailer with the offset 0; the bytes after that stay as they were. A buffer of
+ * HOEFSPANKER_LONGEST_LIST bytes is enough for every list.
+ *
+ * Returns, if it is refused, the first of these that applies, and `out` stays as
+ * it was:
+ *   HOEFSPANKER_BAD_NODE_COUNT  `nodes` is not 1 to 8
+ *   HOEFSPANKER_UNKNOWN_KIND    the first step that does not exist has no such kind
+ *   HOEFSPANKER_WRONG_NODE      it has the wrong node, or is cut short behind its kind
+ *   HOEFSPANKER_BAD_LENGTH      there are more than 32,762 steps
+ *   HOEFSPANKER_OUT_TOO_SHORT   `out_len` is less than L
+ * The bytes of `steps` are never changed.
+ *
+ * The call takes less than 1 KB of stack. */
+uint32_t hoefspanker_write(uint32_t nodes, const uint8_t *steps, size_t steps_len,
+                           uint8_t *out, size_t out_len);
 
 #ifdef __cplusplus
 }

@@ -21,6 +21,9 @@
 #if HOEFSPANKER_OF_SECOND != 16 || HOEFSPANKER_NODES_DIFFER != 28
 #error "refusals of two lists"
 #endif
+#if HOEFSPANKER_WROTE != 256
+#error "a list that was written"
+#endif
 #if HOEFSPANKER_JOIN != 1 || HOEFSPANKER_STARTUP != 13
 #error "kinds"
 #endif
@@ -95,7 +98,20 @@ static bool walks()
         && second[HOEFSPANKER_NEXT_OFFSET_AT] == sizeof capture;
 }
 
+static bool writes()
+{
+    const uint8_t steps[] = {HOEFSPANKER_JOIN, 1, HOEFSPANKER_SHUTDOWN, 0};
+    uint8_t list[sizeof steps + HOEFSPANKER_TRAILER_BYTES];
+    uint8_t out[HOEFSPANKER_MOST_OUT_BYTES];
+    bool refused = hoefspanker_write(1, nullptr, 0, nullptr, 0) == HOEFSPANKER_OUT_TOO_SHORT
+        && hoefspanker_write(9, nullptr, 0, nullptr, 0) == HOEFSPANKER_BAD_NODE_COUNT;
+    bool wrote = hoefspanker_write(1, steps, sizeof steps, list, sizeof list)
+        == HOEFSPANKER_WROTE + sizeof list;
+    return refused && wrote
+        && hoefspanker_run(list, sizeof list, out, sizeof out) == HOEFSPANKER_RAN;
+}
+
 int main()
 {
-    return runs() && reads() && walks() && judges() ? 0 : 1;
+    return runs() && reads() && walks() && judges() && writes() ? 0 : 1;
 }

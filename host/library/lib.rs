@@ -24,6 +24,13 @@ extern "C" {
         places: *mut u8,
         places_len: usize,
     ) -> u32;
+    fn hoefspanker_write(
+        nodes: u32,
+        steps: *const u8,
+        steps_len: usize,
+        out: *mut u8,
+        out_len: usize,
+    ) -> u32;
 }
 
 /// A call that reads one slice and writes another.
@@ -80,6 +87,18 @@ pub fn same_merge_with_nulls(first: &[u8], second: &[u8], places: &mut [u8]) -> 
     let (first_len, second_len, places_len) = (first.len(), second.len(), places.len());
     let (first, second, places) = (start(first), start(second), start_mut(places));
     unsafe { hoefspanker_same_merge(first, first_len, second, second_len, places, places_len) }
+}
+
+/// Writes a list by the library.
+pub fn write(nodes: u32, steps: &[u8], out: &mut [u8]) -> u32 {
+    let (steps_len, out_len) = (steps.len(), out.len());
+    unsafe { hoefspanker_write(nodes, steps.as_ptr(), steps_len, out.as_mut_ptr(), out_len) }
+}
+
+/// As `write`, but an empty slice is lent as NULL.
+pub fn write_with_nulls(nodes: u32, steps: &[u8], out: &mut [u8]) -> u32 {
+    let (steps_len, out_len) = (steps.len(), out.len());
+    unsafe { hoefspanker_write(nodes, start(steps), steps_len, start_mut(out), out_len) }
 }
 
 /// NULL for an empty slice.

@@ -55,6 +55,19 @@ pub unsafe extern "C" fn hoefspanker_same_merge(
     judge::same_merge(first, second, lent_mut(places, places_len))
 }
 
+/// # Safety
+/// As `hoefspanker.h` asks of its callers.
+#[no_mangle]
+pub unsafe extern "C" fn hoefspanker_write(
+    nodes: u32,
+    steps: *const u8,
+    steps_len: usize,
+    out: *mut u8,
+    out_len: usize,
+) -> u32 {
+    writer::write(nodes, lent(steps, steps_len), lent_mut(out, out_len))
+}
+
 unsafe fn lent<'a>(start: *const u8, len: usize) -> &'a [u8] {
     if len == 0 {
         &[]

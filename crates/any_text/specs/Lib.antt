@@ -1,5 +1,5 @@
--- Believed: Decimal, Lines, Put, Line.
--- Laws: Digits, Widths, Puts, Spacing, Lined, Sample.
+-- Believed: Decimal, Lines, Put, Line, Printed.
+-- Laws: Digits, Widths, Puts, Spacing, Lined, Printing, Sample.
 pub mod Decimal
 pub mod Lines
 pub mod Put
@@ -7,6 +7,8 @@ pub mod Digits
 pub mod Widths
 pub mod Puts
 pub mod Line
+pub mod Printed
 pub mod Spacing
 pub mod Lined
+pub mod Printing
 pub mod Sample

@@ -62,7 +62,7 @@ spaced-width (n ∷ ns) h =
     simp length-append (omega arith)
 
 module _ (word ns : List ℕ) (small : (i : ℕ) → getD ns i 0 < 18446744073709551616) where
-  line-width : length (line word ns) ≤ length word + 21 * length ns + 1
+  pub line-width : length (line word ns) ≤ length word + 21 * length ns + 1
   unfolding line
   line-width = let w = spaced-width ns small in simp length-append (omega arith)
 

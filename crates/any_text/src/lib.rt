@@ -10,6 +10,12 @@ ghost use Rattle.any_text.specs.Put.{Room, Put};
 
 const ZERO: u8 = b'0';
 
+// What a program prints: how many bytes of one buffer on standard output, and of another, which says why there are none, on standard error.
+pub struct Printed {
+    pub out: usize,
+    pub line: usize,
+}
+
 fn put_byte(buf: &mut [u8], at: usize, byte: u8) -> usize
     requires { ⌜ Room (now buf) at (byte ∷ []) ⌝ }
     ensures { λ r. ⌜ Put (now (buf .entry)) at (byte ∷ []) (now (buf .exit)) r ⌝ }

@@ -46,6 +46,12 @@ full ((b ∷ p) ∷ ps) = (b ∷ p) ∷ full ps
 abbrev pub words : List ℕ → List (List ℕ)
 words line = full (pieces isBlank line)
 
+unfoldable pub same : List ℕ → List ℕ → Bool
+same [] [] = true
+same [] (b ∷ w) = false
+same (a ∷ v) [] = false
+same (a ∷ v) (b ∷ w) = eqb a b && same v w
+
 -- ---- numbers
 
 -- A word of at most 19 digits.

@@ -4,7 +4,7 @@ ghost use Prim.Native.Nat.{_≤_};
 ghost use lib.Dec.{eqb};
 ghost use lib.ListN.{length, getD};
 ghost use Rattle.any_search.specs.Seek.{Sought};
-ghost use Rattle.any_words.specs.Text.{isBlank, isDigit, numberOf};
+ghost use Rattle.any_words.specs.Text.{isBlank, isDigit, same, numberOf};
 ghost use Rattle.any_words.specs.Words.{blankIs};
 
 // A word of a line.
@@ -55,6 +55,23 @@ pub fn next_where(line: &[u8], start: usize, blank: bool) -> usize
         i += 1;
     }
     i
+}
+
+// Whether two words are the same.
+pub fn same(word: &[u8], other: &[u8]) -> bool
+    ensures { λ r. ⌜ r ≡ same (now (word .entry)) (now (other .entry)) ⌝ }
+{
+    if word.len() != other.len() {
+        return false;
+    }
+    let mut i: usize = 0;
+    while i < word.len() {
+        if word[i] != other[i] {
+            return false;
+        }
+        i += 1;
+    }
+    true
 }
 
 // ---- numbers

@@ -9,6 +9,8 @@ use Rattle.step.specs.declared.Report.{Report}
 use Rattle.wire_arbitration.specs.declared.Arbitration.{Arbitration}
 use Rattle.wire_frames.specs.declared.Frame.{Frame}
 use Rattle.merge_compare.specs.declared.Finding.{Finding}
+use Rattle.list_write.specs.declared.Wrote.{Wrote}
+use Rattle.any_text.specs.declared.Printed.{Printed}
 use Rattle.step.proofs.fresh.Reads as Fresh
 use Rattle.step.proofs.step.Reads as Step
 use Rattle.step.proofs.open_streams.Reads as OpenStreams
@@ -16,6 +18,10 @@ use Rattle.step_range.proofs.in_range.Reads as InRange
 use Rattle.merge_independence.proofs.independent.Reads as Independent
 use Rattle.run.proofs.run.Reads as Run
 use Rattle.run_text.proofs.transcript.Reads as Transcript
+use Rattle.list_write.proofs.write.Reads as Write
+use Rattle.list_write.proofs.write_call.Reads as WriteCall
+use Rattle.list_source.proofs.list_from.Reads as ListFrom
+use Rattle.list_text.proofs.text_of.Reads as TextOf
 use Rattle.merge_compare.proofs.compare.Reads as Compare
 use Rattle.merge_call.proofs.same_merge.Reads as SameMerge
 use Rattle.merge_text.proofs.report.Reads as Reports
@@ -30,6 +36,7 @@ use Rattle.wire_frames_text.proofs.shown.Reads as Shown
 use Rattle.wire_frames_text.proofs.ended.Reads as Ended
 use Rattle.hoefspanker.proofs.hoefspanker_run.Reads as HostRun
 use Rattle.hoefspanker.proofs.hoefspanker_same_merge.Reads as HostSameMerge
+use Rattle.hoefspanker.proofs.hoefspanker_write.Reads as HostWrite
 use Rattle.hoefspanker.proofs.hoefspanker_read_arbitration.Reads as HostReadArbitration
 use Rattle.hoefspanker.proofs.hoefspanker_read_frame.Reads as HostReadFrame
 use Rattle.contracts.specs.Contract.{May}
@@ -68,6 +75,25 @@ HostRunMay = May HostRun.Post (λ κs a. (now (a .0), now (a .1 .0))) (λ κs e.
 -- transcript(list, buf)
 abbrev pub TranscriptMay : List ℕ × List ℕ → ℕ → List ℕ → Type 0
 TranscriptMay = May Transcript.Post (λ κs a. (now (a .0), now (a .1 .0))) (λ κs e. now (e .1 .0))
+
+-- write(nodes, steps, out)
+abbrev pub WriteMay : ℕ × List ℕ × List ℕ → Wrote → List ℕ → Type 0
+WriteMay = May Write.Post (λ κs a. (a .0, now (a .1 .0), now (a .1 .1 .0))) (λ κs e. now (e .1 .1 .0))
+
+-- write_call(nodes, steps, out)
+abbrev pub WriteCallMay : ℕ × List ℕ × List ℕ → ℕ → List ℕ → Type 0
+WriteCallMay = May WriteCall.Post (λ κs a. (a .0, now (a .1 .0), now (a .1 .1 .0))) (λ κs e. now (e .1 .1 .0))
+
+abbrev pub HostWriteMay : ℕ × List ℕ × List ℕ → ℕ → List ℕ → Type 0
+HostWriteMay = May HostWrite.Post (λ κs a. (a .0, now (a .1 .0), now (a .1 .1 .0))) (λ κs e. now (e .1 .1 .0))
+
+-- list_from(text, out, line): then the bytes of both buffers
+abbrev pub ListFromMay : List ℕ × List ℕ × List ℕ → Printed → List ℕ × List ℕ → Type 0
+ListFromMay = May ListFrom.Post (λ κs a. (now (a .0), now (a .1 .0), now (a .1 .1 .0))) (λ κs e. (now (e .1 .0), now (e .1 .1 .0)))
+
+-- text_of(list, text, line)
+abbrev pub TextOfMay : List ℕ × List ℕ × List ℕ → Printed → List ℕ × List ℕ → Type 0
+TextOfMay = May TextOf.Post (λ κs a. (now (a .0), now (a .1 .0), now (a .1 .1 .0))) (λ κs e. (now (e .1 .0), now (e .1 .1 .0)))
 
 -- ---- two merges, and a log
 

@@ -1,7 +1,7 @@
 -- No second answer: of every function that the README offers, of the calls for C, and of the texts that the programs print. Assumes nothing.
 use Rattle.contracts.specs.Contract.{One, one}
-use Rattle.contracts.specs.Calls.{FreshMay, StepMay, OpenStreamsMay, InRangeMay, IndependentMay, RunMay, HostRunMay, TranscriptMay, CompareMay, SameMergeMay, HostSameMergeMay, ReportMay, AnswerMay, ReadMay, ReadIntoMay, HostReadArbitrationMay, PrintoutMay, ReadFrameMay, LooksStreamedMay, FrameIntoMay, HostReadFrameMay, ShownMay, EndedMay}
-use Rattle.contracts.specs.Only.{only-fresh, only-step, only-open-streams, only-in-range, only-independent, only-run, only-host-run, only-transcript, only-compare, only-same-merge, only-host-same-merge, only-report, only-answer, only-read, only-read-into, only-host-read-arbitration, only-printout, only-read-frame, only-looks-streamed, only-frame-into, only-host-read-frame, only-shown, only-ended}
+use Rattle.contracts.specs.Calls.{FreshMay, StepMay, OpenStreamsMay, InRangeMay, IndependentMay, RunMay, HostRunMay, TranscriptMay, WriteMay, WriteCallMay, HostWriteMay, ListFromMay, TextOfMay, CompareMay, SameMergeMay, HostSameMergeMay, ReportMay, AnswerMay, ReadMay, ReadIntoMay, HostReadArbitrationMay, PrintoutMay, ReadFrameMay, LooksStreamedMay, FrameIntoMay, HostReadFrameMay, ShownMay, EndedMay}
+use Rattle.contracts.specs.Only.{only-fresh, only-step, only-open-streams, only-in-range, only-independent, only-run, only-host-run, only-transcript, only-write, only-write-call, only-host-write, only-list-from, only-text-of, only-compare, only-same-merge, only-host-same-merge, only-report, only-answer, only-read, only-read-into, only-host-read-arbitration, only-printout, only-read-frame, only-looks-streamed, only-frame-into, only-host-read-frame, only-shown, only-ended}
 
 pub one-fresh : One FreshMay
 one-fresh = one _ _ _ only-fresh
@@ -26,6 +26,21 @@ one-host-run = one _ _ _ only-host-run
 
 pub one-transcript : One TranscriptMay
 one-transcript = one _ _ _ only-transcript
+
+pub one-write : One WriteMay
+one-write = one _ _ _ only-write
+
+pub one-write-call : One WriteCallMay
+one-write-call = one _ _ _ only-write-call
+
+pub one-host-write : One HostWriteMay
+one-host-write = one _ _ _ only-host-write
+
+pub one-list-from : One ListFromMay
+one-list-from = one _ _ _ only-list-from
+
+pub one-text-of : One TextOfMay
+one-text-of = one _ _ _ only-text-of
 
 pub one-compare : One CompareMay
 one-compare = one _ _ _ only-compare

@@ -1,16 +1,22 @@
 -- The only answer that each contract leaves, by the definition that it cites. Assumes nothing.
-use mathlib.Core.Path.{_≡_, refl, ap, _∙_}
+use mathlib.Core.Path.{_≡_, refl, ap, ap₂, _∙_}
 use mathlib.Core.List.{List}
 use Prim.Native.Nat.{ℕ}
 use native.Mathlib.Omega.{arith}
 use lib.ListN.{length}
 use lib.Seq.{sets}
 use Rattle.any_text.specs.Put.{Put}
+use Rattle.any_text.specs.declared.Printed.{Printed}
+use Rattle.any_text.specs.Printed.{Output, Prints}
 use Rattle.step_state.specs.Tidy.{stateFits}
 use Rattle.step.specs.Public.{stepped, freshened, reported}
 use Rattle.rules_exchange.specs.Independent.{independent}
 use Rattle.run.specs.Ran.{ran}
 use Rattle.run_text.specs.Transcript.{transcript}
+use Rattle.list_write.specs.declared.Wrote.{Wrote}
+use Rattle.list_write.specs.Write.{wrote, returnOf}
+use Rattle.list_source.specs.Printed.{output}
+use Rattle.list_text.specs.Shown as Texts
 use Rattle.merge_compare.specs.Compared.{compared}
 use Rattle.merge_call.specs.Reply.{reply}
 use Rattle.merge_text.specs.Report.{report}
@@ -24,7 +30,7 @@ use Rattle.wire_frames.specs.declared.Frame.{Frame}
 use Rattle.wire_frames_bytes.specs.Reply.{frameReply}
 use Rattle.wire_frames_text.specs.Shown.{frameText, endText}
 use Rattle.contracts.specs.Contract.{Gives, Only, only}
-use Rattle.contracts.specs.Calls.{FreshMay, StepMay, OpenStreamsMay, InRangeMay, IndependentMay, RunMay, HostRunMay, TranscriptMay, CompareMay, SameMergeMay, HostSameMergeMay, ReportMay, AnswerMay, ReadMay, ReadIntoMay, HostReadArbitrationMay, PrintoutMay, ReadFrameMay, LooksStreamedMay, FrameIntoMay, HostReadFrameMay, ShownMay, EndedMay}
+use Rattle.contracts.specs.Calls.{FreshMay, StepMay, OpenStreamsMay, InRangeMay, IndependentMay, RunMay, HostRunMay, TranscriptMay, WriteMay, WriteCallMay, HostWriteMay, ListFromMay, TextOfMay, CompareMay, SameMergeMay, HostSameMergeMay, ReportMay, AnswerMay, ReadMay, ReadIntoMay, HostReadArbitrationMay, PrintoutMay, ReadFrameMay, LooksStreamedMay, FrameIntoMay, HostReadFrameMay, ShownMay, EndedMay}
 
 -- To g, the text t is put at the front of the buffer that is lent, and its length is returned; the bytes behind it stay.
 abbrev pub Puts : {G : Type 0} → (G → ℕ → List ℕ → Type 0) → G → List ℕ → List ℕ → Type 0
@@ -64,6 +70,36 @@ only-host-run = only _ _ _ _ _ (λ κs a r e m. m)
 
 pub only-transcript : (g : List ℕ × List ℕ) → Puts TranscriptMay g (transcript (g .0)) (g .1)
 only-transcript = only _ _ _ _ _ (λ κs a r e m. at-front (m .0))
+
+abbrev pub wroteOf : ℕ × List ℕ × List ℕ → Wrote
+wroteOf g = record { code = wrote (g .0) (g .1) (g .2) .code; length = wrote (g .0) (g .1) (g .2) .length }
+
+pub only-write : Only WriteMay wroteOf (λ g. wrote (g .0) (g .1) (g .2) .out)
+only-write = only _ _ _ _ _ (λ κs a r e m. (ap₂ (λ (c n : ℕ). record { code = c; length = n }) (m .0) (m .1), m .2))
+
+pub only-write-call : Only WriteCallMay (λ g. returnOf (wrote (g .0) (g .1) (g .2))) (λ g. wrote (g .0) (g .1) (g .2) .out)
+only-write-call = only _ _ _ _ _ (λ κs a r e m. m)
+
+pub only-host-write : Only HostWriteMay (λ g. returnOf (wrote (g .0) (g .1) (g .2))) (λ g. wrote (g .0) (g .1) (g .2) .out)
+only-host-write = only _ _ _ _ _ (λ κs a r e m. m)
+
+-- To g, an output or a line about a refusal is put at the front of its buffer, and their lengths are returned; the other bytes stay.
+abbrev pub PutsBoth : (List ℕ × List ℕ × List ℕ → Printed → List ℕ × List ℕ → Type 0) → (List ℕ → Output) → Type 0
+PutsBoth may o = Only may (λ g. record { out = length (o (g .0) .out); line = length (o (g .0) .refusal) }) (λ g. (sets (g .1) 0 (o (g .0) .out), sets (g .2) 0 (o (g .0) .refusal)))
+
+abbrev pair : List ℕ → List ℕ → List ℕ × List ℕ
+pair a b = (a, b)
+
+both-fronts : {o : Output} {out line out′ line′ : List ℕ} {r : Printed} → Prints o out line out′ line′ r
+    → (r ≡ record { out = length (o .out); line = length (o .refusal) }) × (_≡_ {A = List ℕ × List ℕ} (out′, line′) (sets out 0 (o .out), sets line 0 (o .refusal)))
+both-fronts p =
+    (ap₂ (λ (n k : ℕ). record { out = n; line = k }) (at-front (p .output) .0) (at-front (p .refusal) .0), ap₂ pair (at-front (p .output) .1) (at-front (p .refusal) .1))
+
+pub only-list-from : PutsBoth ListFromMay output
+only-list-from = only _ _ _ _ _ (λ κs a r e m. both-fronts m)
+
+pub only-text-of : PutsBoth TextOfMay Texts.shown
+only-text-of = only _ _ _ _ _ (λ κs a r e m. both-fronts m)
 
 -- ---- two merges, and a log
 

@@ -2,6 +2,7 @@
 //
 // No contract can speak of bytes that come from outside or go there. Those here say that what was read lies within the buffer that was lent.
 ghost use Rattle.files.specs.Within.{Within};
+use libc::STDERR_FILENO;
 use libc::STDIN_FILENO;
 use libc::STDOUT_FILENO;
 
@@ -21,6 +22,11 @@ pub fn print(text: &[u8]) -> bool {
     }
     os::fail(b"standard output");
     false
+}
+
+// Writes a text to standard error.
+pub fn warn(text: &[u8]) {
+    io::write_all(STDERR_FILENO, text);
 }
 
 // What failed and why, on standard error, and the line that is the answer.
@@ -62,6 +68,17 @@ pub fn read_input(buf: &mut [u8]) -> Input
     ensures { λ r. ⌜ Within r (now (buf .exit)) ⌝ }
 {
     read_from(STDIN_FILENO, b"standard input", b"refused file\n", buf)
+}
+
+// Reads standard input for a program whose output is no text of answers: where a read fails, `refused file` goes to standard error.
+pub fn read_source(buf: &mut [u8]) -> Input
+    ensures { λ r. ⌜ Within r (now (buf .exit)) ⌝ }
+{
+    let Input::Whole(n) = read_from(STDIN_FILENO, b"standard input", b"", buf) else {
+        warn(b"refused file\n");
+        return Input::Refused;
+    };
+    Input::Whole(n)
 }
 
 // Reads the file that argument i names. Where it cannot be opened or a read fails, the line is printed.

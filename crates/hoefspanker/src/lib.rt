@@ -3,6 +3,7 @@ ghost use mathlib.Core.Path.{_≡_};
 ghost use Rattle.wire_bytes.specs.Bytes.{reported};
 ghost use Rattle.run.specs.Ran.{ran};
 ghost use Rattle.merge_call.specs.Reply.{reply};
+ghost use Rattle.list_write.specs.Write.{wrote, returnOf};
 ghost use Rattle.wire_frames_bytes.specs.Reply.{frameReply};
 
 // Runs a list from a fresh state: an answer for each record, the history behind the answers, and the bytes after it stay.
@@ -23,6 +24,16 @@ pub extern "C" fn hoefspanker_same_merge(first: &[u8], second: &[u8], places: &m
         × (now (places .exit) ≡ reply (now (first .entry)) (now (second .entry)) (now (places .entry)) .places) ⌝ }
 {
     merge_call::same_merge(first, second, places)
+}
+
+// Writes steps, kind and node of each, as an event list: the list at the front of the buffer, and the bytes after it stay. Returns 256 plus its length;
+// or why the node count, a step, the length or the buffer is refused, and then leaves every byte of the buffer.
+#[no_mangle]
+pub extern "C" fn hoefspanker_write(nodes: u32, steps: &[u8], out: &mut [u8]) -> u32
+    ensures { λ r. ⌜ (r ≡ returnOf (wrote nodes (now (steps .entry)) (now (out .entry))))
+        × (now (out .exit) ≡ wrote nodes (now (steps .entry)) (now (out .entry)) .out) ⌝ }
+{
+    list_write::write_call(nodes, steps, out)
 }
 
 // Reads a captured arbitration message: its fields as 40 bytes at the front of the buffer, and the bytes after them stay. Returns 0, or why the message

@@ -23,18 +23,23 @@ pub record Good (l : List ℕ) : Type 0 where
   pub nodes : Within 1 mostNodes (nodeCount l)
   pub sum : firstRecord l + 2 * recordCount l + trailerLength ≡ length l
 
-all-hold : (a b c d : Bool) → need a badLength (need b badMark (need c badNodeCount (need d badExtent 0))) ≡ 0 → T a × (T c × T d)
+all-hold : (a b c d : Bool) → need a badLength (need b badMark (need c badNodeCount (need d badExtent 0))) ≡ 0 → T a × T b × T c × T d
 all-hold false b c d e = absurd (omega arith)
 all-hold true false c d e = absurd (omega arith)
 all-hold true true false d e = absurd (omega arith)
 all-hold true true true false e = absurd (omega arith)
-all-hold true true true true e = (tt, (tt, tt))
+all-hold true true true true e = (tt, tt, tt, tt)
 
 pub good : (l : List ℕ) → refusal l ≡ 0 → Good l
 unfolding refusal
 good l e =
     let t = all-hold (lengthFits l) (trailerFits l) (nodesFit l) (sumFits l) e in
-    record { size = is-within _ _ _ .to (t .0); nodes = is-within _ _ _ .to (t .1 .0); sum = is-eq _ _ .to (t .1 .1) }
+    record { size = is-within _ _ _ .to (t .0); nodes = is-within _ _ _ .to (t .2); sum = is-eq _ _ .to (t .3) }
+
+-- Its trailer ends as it must.
+pub good-ends : (l : List ℕ) → refusal l ≡ 0 → T (trailerFits l)
+unfolding refusal
+good-ends l e = all-hold (lengthFits l) (trailerFits l) (nodesFit l) (sumFits l) e .1
 
 -- ---- what the code answers
 

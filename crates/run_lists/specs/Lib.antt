@@ -1,5 +1,5 @@
--- Believed: EventList, Entries.
--- Definitions: Listed, Reads.
+-- Believed: EventList, Entries, Listed.
+-- Definitions: Reads.
 -- Laws: Good, Trails, Stores, Written, Sample, Made.
 pub mod EventList
 pub mod Entries

@@ -11,7 +11,7 @@ ghost use Rattle.step_parts.specs.Hold.{holdWrite};
 use step_parts::Term;
 use step_parts::Write;
 
-const TRAILER_LENGTH: usize = 12;
+pub const TRAILER_LENGTH: usize = 12;
 
 // The most bytes that a list has.
 pub const LONGEST: usize = 65536;

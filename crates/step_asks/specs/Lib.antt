@@ -1,4 +1,4 @@
--- Definitions: Groups.
+-- Believed: Groups.
 -- Laws: Kinds.
 pub mod Groups
 pub mod Kinds

@@ -4,6 +4,9 @@ use std::process::ExitCode;
 
 use trial::{Comparison, Counts};
 
+/// Longer input is printed as it is, since the time to shrink it grows with its square.
+const MOST_SHRUNK: usize = 4_096;
+
 /// A call on some bytes and a buffer.
 pub trait Compared: Clone {
     /// What the reading returns, and a word on the difference if there is one.
@@ -38,7 +41,9 @@ pub fn compared<C: Compared>(
 
 fn print_difference<C: Compared>(call: &C) {
     let differs = |input: &[u8]| call.with(input).compare().1.is_some();
-    let smaller = call.with(&trial::shrunk(call.input().to_vec(), differs));
+    let input = call.input().to_vec();
+    let short = input.len() <= MOST_SHRUNK;
+    let smaller = call.with(&if short { trial::shrunk(input, differs) } else { input });
     println!("smallest that differs, {}:", smaller.lent());
     print!("{}", trial::hex(smaller.input()));
     println!("{}", smaller.compare().1.unwrap_or_default());

@@ -1,4 +1,5 @@
-//! Calls of the library, on lent buffers, held against the reading.
+//! Calls of the library, on lent buffers, held against the reading, and what every
+//! comparison of a call on some bytes and a buffer does alike.
 
 mod comparison;
 mod frame;
@@ -31,20 +32,21 @@ impl Lending {
         Lending { input: input.to_vec(), room, nulls: false, shift: 0, fill: 0xA5 }
     }
 
-    /// What the reading returns, and a word on how the library differs from it.
-    fn compare(
+    /// What the reading, or another reference, returns, and a word on how the library
+    /// differs from it.
+    pub fn compare(
         &self,
-        reading: impl Fn(&[u8], &mut [u8]) -> u32,
+        reference: impl Fn(&[u8], &mut [u8]) -> u32,
         library: impl Fn(&[u8], &mut [u8]) -> u32,
     ) -> (u32, Option<String>) {
         let before: Vec<u8> = (0..self.room).map(|at| (at * 37) as u8 ^ self.fill).collect();
         let mut expected = before.clone();
-        let result = reading(&self.input, &mut expected);
+        let result = reference(&self.input, &mut expected);
         let mut input = Lent::new(&self.input, self.shift);
         let mut out = Lent::new(&before, self.shift);
         let returned = library(input.content(), out.content());
         let difference = if returned != result {
-            Some(format!("the library returns {returned}, the reading {result}"))
+            Some(format!("the library returns {returned}, the reference {result}"))
         } else {
             let of_input = input.difference("input", &self.input);
             of_input.or_else(|| out.difference("buffer", &expected))

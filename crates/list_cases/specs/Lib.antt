@@ -1,0 +1,3 @@
+-- Laws: Written, Texts.
+pub mod Written
+pub mod Texts

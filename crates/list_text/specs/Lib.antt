@@ -1,0 +1,5 @@
+-- Believed: Shown.
+-- Laws: Showing, Back.
+pub mod Shown
+pub mod Showing
+pub mod Back

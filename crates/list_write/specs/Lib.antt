@@ -1,0 +1,5 @@
+-- Believed: Write.
+-- Laws: Steps, Back.
+pub mod Write
+pub mod Steps
+pub mod Back
