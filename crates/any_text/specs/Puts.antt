@@ -1,12 +1,12 @@
 -- Bytes put one behind the other: the content, the place and the room. Assumes nothing.
-use mathlib.Core.Path.{_≡_, refl, sym, ap, _∙_}
+use mathlib.Core.Path.{_≡_, refl, sym, ap, ap₂, _∙_}
 use mathlib.Core.List.{List, [], _∷_, _++_}
-use Prim.Native.Nat.{ℕ, suc, _+_, _<_}
+use Prim.Native.Nat.{ℕ, suc, _+_, _≤_, _<_}
 use native.Mathlib.Nat.{add-zero, add-suc, suc-add}
 use native.Mathlib.Numerals.{add-one}
 use native.Mathlib.Omega.{arith}
-use lib.ListN.{length, set, take, getD, length-append}
-use lib.Seq.{sets, length-sets, take-suc, length-take-le}
+use lib.ListN.{length, set, take, drop, getD, length-append}
+use lib.Seq.{sets, sets-eq, length-sets, take-suc, take-at, length-take-le}
 use Rattle.any_text.specs.Put.{Room, Put}
 
 sets-then : (l : List ℕ) (at : ℕ) (a b : List ℕ) → sets (sets l at a) (at + length a) b ≡ sets l at (a ++ b)
@@ -32,6 +32,12 @@ module _ {l : List ℕ} {at : ℕ} {a : List ℕ} where
 
   pub room-then : {b m : List ℕ} {i : ℕ} → Put l at a m i → Room l at (a ++ b) → Room m i b
   room-then {b} p r = record { enough = let n = length-append a b in let k = put-length p in omega arith }
+
+-- What was put at the front stands there.
+pub put-read : {bytes before after : List ℕ} {n : ℕ} → Put before 0 bytes after n → length bytes ≤ length before → take n after ≡ bytes
+put-read {bytes} {before} {after} {n} p h =
+    let whole : n ≡ length bytes = (let z = p .place in omega arith) in
+    ap₂ take whole (p .content ∙ sets-eq bytes before 0 (omega arith)) ∙ take-at bytes (drop (0 + length bytes) before) (length bytes) refl
 
 -- ---- a word, byte by byte
 

@@ -4,19 +4,19 @@ use mathlib.Core.Bool.{Bool, cond}
 use mathlib.Core.List.{List, [], _∷_, _++_}
 use Prim.Native.Nat.{ℕ, zero, suc, _+_, _≤_, _<_}
 use native.Mathlib.Omega.{arith}
-use lib.ListN.{length, take, drop}
-use lib.Seq.{sets-eq, take-append-seam}
+use lib.ListN.{length, take}
 use borrow.Author.Tests.{le-leb, lt-leb}
 use Rattle.any_text.specs.Decimal.{decimal}
 use Rattle.any_text.specs.Lines.{refusedLine}
 use Rattle.any_text.specs.Line as A
 use Rattle.any_text.specs.Put.{Put}
-use Rattle.any_text.specs.Puts.{put-length}
+use Rattle.any_text.specs.Puts.{put-length, put-read}
 use Rattle.any_text.specs.Printed.{refusing, Prints}
 use Rattle.any_text.specs.Printing.{prints-refusal, prints-output}
 use Rattle.run_lists.specs.EventList.{longest, over}
 use Rattle.run_lists.specs.Listed.{listOf}
 use Rattle.run_lists.specs.Made.{list-length}
+use Rattle.run_lists.specs.Written.{over-more}
 use Rattle.list_write.specs.Write as W
 use Rattle.list_write.specs.Write.{stepsIn, lengthOf, writeRefusal, wrote}
 use Rattle.list_write.specs.Steps.{kept, code-written, not-written}
@@ -60,22 +60,14 @@ module _ (nodes : ℕ) (steps out line : List ℕ) (size : length out ≡ longes
       let m = list-length nodes es (k .nodes-in .lower) (k .nodes-in .upper) (k .short) in
       let long : n ≡ lengthOf es = l ∙ ap (λ (x : ℕ). W.written x nodes es out .length) (sym none) in
       let front : out′ ≡ over (listOf nodes es) out = o ∙ ap (λ (x : ℕ). W.written x nodes es out .out) (sym none) in
-      let none-before : 0 + length (listOf nodes es) ≡ length (listOf nodes es) = omega arith in
       let put : Put out 0 (listOf nodes es) out′ n = record {
-        content = front ∙ sym (sets-eq (listOf nodes es) out 0 (omega arith) ∙ ap (λ (i : ℕ). listOf nodes es ++ drop i out) none-before);
+        content = front ∙ sym (over-more [] (listOf nodes es) out (omega arith));
         place = omega arith;
       } in
       let same = put-length put in
       prints-output (ap (λ (x : ℕ). listed x nodes es) (sym (none ∙ ap (writeRefusal nodes es) size))) line put (omega arith)
 
 -- ---- a text that is read
-
-take-put : (b l m : List ℕ) {n : ℕ} → Put l 0 b m n → n ≤ length m → take n m ≡ b
-take-put b l m {n} p h =
-    let c = put-length p in
-    let z = p .place in
-    let long : n ≡ length b = omega arith in
-    ap₂ (λ (i : ℕ) (x : List ℕ). take i x) long (p .content ∙ sets-eq b l 0 (omega arith)) ∙ take-append-seam b (drop (0 + length b) l)
 
 module _ (text out line : List ℕ) (short : length text ≤ longestText) where
   said : ofReading (readText text .line) (readText text) ≡ output text
@@ -91,7 +83,10 @@ module _ (text out line : List ℕ) (short : length text ≤ longestText) where
         go (suc k) e z = ap₂ (λ (c i : ℕ). refusing (lineRefused c i)) (sym (r .code)) (sym e)
 
     pub steps-read : s .steps ≤ length after → stepsIn (take (s .steps) after) ≡ readText text .steps
-    steps-read h = ap stepsIn (take-put _ before after (r .put) h) ∙ steps-flat (readText text .steps) (r .small)
+    steps-read h =
+        let n = put-length (r .put) in
+        let z = r .put .place in
+        ap stepsIn (put-read (r .put) (omega arith)) ∙ steps-flat (readText text .steps) (r .small)
 
     pub prints-written : s .line ≡ 0 → s .steps ≤ length after → written (s .nodes) (stepsIn (take (s .steps) after)) ≡ output text
     prints-written z h = ap₂ written (r .nodes) (steps-read h) ∙ ap (λ (k : ℕ). ofReading k (readText text)) (sym z ∙ r .line) ∙ said

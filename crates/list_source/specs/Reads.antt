@@ -21,7 +21,7 @@ use Rattle.any_text.specs.Puts.{put-none, put-then}
 use Rattle.any_words.specs.Text.{pieces, lines}
 use Rattle.any_words.specs.Lines.{linesFrom, lines-more}
 use Rattle.run_lists.specs.Listed.{flat}
-use Rattle.run_lists.specs.Made.{Small}
+use Rattle.run_lists.specs.Made.{Small, flat-both}
 use Rattle.list_write.specs.Write.{faultOf}
 use Rattle.list_words.specs.declared.Line.{Line}
 use Rattle.list_words.specs.declared.Line.the-variants.{Blank, Nodes, Step, Other}
@@ -121,11 +121,6 @@ unfolding readText flat
 going-starts text before =
     let all : linesFrom text 0 ≡ lines text = rw (le-leb 0 (length text) (omega arith)) refl in
     record { done = []; place = omega arith; number = omega arith; room = omega arith; put = put-none before 0; small = tt; going = ap (readFrom 0 1) all }
-
-flat-both : (a b : List Event) → flat (a ++ b) ≡ flat a ++ flat b
-unfolding flat
-flat-both [] b = refl
-flat-both (e ∷ a) b = ap (λ (l : List ℕ). e .kind % 256 ∷ e .node % 256 ∷ l) (flat-both a b)
 
 module _ {text before steps : List ℕ} {at k nodes n : ℕ} (g : Going text before steps at k nodes n) where
   -- It ends with these.

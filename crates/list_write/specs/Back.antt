@@ -21,7 +21,7 @@ use Rattle.any_list.specs.Tables.{table-of}
 use Rattle.run_lists.specs.EventList.{longest, byteAt, numberAt, trailerAt, firstRecord, recordCount, nodeCount, refusal, eventAt, recordAt, records, over}
 use Rattle.run_lists.specs.Listed.{flat, trailerBytes, listOf}
 use Rattle.run_lists.specs.Good.{good, good-ends, records-length}
-use Rattle.run_lists.specs.Made.{Small, list-length, list-good, list-first, list-nodes, list-records}
+use Rattle.run_lists.specs.Made.{Small, noStep, list-length, list-good, list-first, list-nodes, list-records}
 use Rattle.list_write.specs.Write.{stepsIn, faultOf, firstFault, lengthOf, writeRefusal, listIn, wrote}
 use Rattle.list_write.specs.Steps.{flat-steps, kept, code-written}
 
@@ -37,9 +37,6 @@ spell zero [] h = refl
 spell zero (x ∷ t) h = absurd (omega arith)
 spell (suc k) [] h = absurd (omega arith)
 spell (suc k) (x ∷ t) h = ap (λ m. x ∷ m) (spell k t (omega arith))
-
-abbrev noStep : Event
-noStep = record { kind = 0; node = 0 }
 
 step-at : (n : ℕ) (l : List ℕ) (i : ℕ) → length l ≡ 2 * n → i < n → getD (stepsIn l) i noStep ≡ eventAt l (2 * i)
 unfolding stepsIn

@@ -8,7 +8,6 @@ use native.Mathlib.Nat.{le-of-suc-le-suc}
 use native.Mathlib.Omega.{arith}
 use lib.Dec.{leb}
 use lib.ListN.{length, getD, drop, length-append, drop-of-length-le, List·getD-eq-default}
-use lib.Seq.{sets, sets-eq}
 use borrow.Author.Tests.{le-leb, lt-leb, leb-true, ne-eqb}
 use Rattle.rules.specs.Limits.{mostNodes}
 use Rattle.rules.specs.Codes.{badLength, badNodeCount, outTooShort}
@@ -22,6 +21,7 @@ use Rattle.any_text.specs.Put.{Room, Put}
 use Rattle.any_text.specs.Puts.{put-length, put-then}
 use Rattle.step_asks.specs.Groups.{existenceOf}
 use Rattle.run_lists.specs.EventList.{trailerLength, longest, need, over}
+use Rattle.run_lists.specs.Written.{over-more}
 use Rattle.run_lists.specs.Listed.{flat, trailerBytes, listOf}
 use Rattle.list_write.specs.Write.{missing, stepsIn, orElse, faultOf, firstFault, lengthOf, writeRefusal, written, wrote, returnOf}
 
@@ -216,10 +216,7 @@ module _ (nodes : ℕ) (steps out : List ℕ) (none : 0 ≡ writeRefusal nodes (
         let n = length-append steps trailer in
         let o = ap length is in
         let z = t .place in
-        let none-before : 0 + length (steps ++ trailer) ≡ length (steps ++ trailer) = omega arith in
-        let front : sets out 0 (steps ++ trailer) ≡ over (steps ++ trailer) out =
-        sets-eq (steps ++ trailer) out 0 (omega arith) ∙ ap (λ (i : ℕ). (steps ++ trailer) ++ drop i out) none-before in
-        rw (← none) (refl, omega arith, t .content ∙ front ∙ ap (λ (l : List ℕ). over l out) all)
+        rw (← none) (refl, omega arith, t .content ∙ over-more [] (steps ++ trailer) out (omega arith) ∙ ap (λ (l : List ℕ). over l out) all)
 
 -- A list that is not refused, and one that is.
 pub code-written : (nodes : ℕ) (steps out : List ℕ) → wrote nodes steps out .code ≡ writeRefusal nodes (stepsIn steps) (length out)

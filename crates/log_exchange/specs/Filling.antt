@@ -1,12 +1,12 @@
 -- Steps put down as bytes, one after another. Assumes nothing.
-use mathlib.Core.Path.{_≡_, refl, ap, ap₂, _∙_}
+use mathlib.Core.Path.{_≡_}
 use mathlib.Core.Bool.{Bool}
-use mathlib.Core.List.{List, [], _∷_, _++_}
+use mathlib.Core.List.{List, [], _∷_}
 use Prim.Native.Nat.{ℕ, _+_, _*_, _%_, _≤_, _<_}
 use native.Mathlib.Numerals.{add-one}
 use native.Mathlib.Omega.{arith}
-use lib.ListN.{length, getD, take, drop}
-use lib.Seq.{take-suc, take-all, take-at, sets-eq}
+use lib.ListN.{getD, take}
+use lib.Seq.{take-suc, take-all}
 use Rattle.rules.specs.Step.{Event}
 use Rattle.any_list.specs.Arrays.{table}
 use Rattle.any_list.specs.Tables.{table-get, table-length}
@@ -15,18 +15,11 @@ use Rattle.any_text.specs.Puts.{put-none, put-then}
 use Rattle.log_records.specs.Rows.{rowIn}
 use Rattle.log_exchange.specs.Exchange.{moved}
 use Rattle.run_lists.specs.Listed.{flat, trailerBytes, listOf}
+use Rattle.run_lists.specs.Made.{noStep, flat-both}
 
 -- The step at place i of the exchanged merge.
 abbrev pub stepAt : List ℕ → Bool → ℕ → ℕ → ℕ → Event
 stepAt l up x y i = rowIn l (moved up x y i) .logged .event
-
-flat-both : (a b : List Event) → flat (a ++ b) ≡ flat a ++ flat b
-unfolding flat
-flat-both [] b = refl
-flat-both (e ∷ a) b = ap (λ (l : List ℕ). e .kind % 256 ∷ e .node % 256 ∷ l) (flat-both a b)
-
-abbrev noStep : Event
-noStep = record { kind = 0; node = 0 }
 
 -- The first i of n steps are put down.
 pub record Stepped (f : ℕ → Event) (n : ℕ) (before after : List ℕ) (at i : ℕ) : Type 0 where
@@ -59,10 +52,3 @@ module _ {f : ℕ → Event} {n : ℕ} {before after : List ℕ} {at i : ℕ} (s
 -- The steps, and the trailer behind them.
 pub list-put : (count n : ℕ) (f : ℕ → Event) {l m k : List ℕ} {i j : ℕ} → Put l 0 (flat (table n f)) m i → Put m i (trailerBytes n count) k j → Put l 0 (listOf count (table n f)) k j
 list-put count n f p q = put-then p (rw (table-length n f) q)
-
--- ---- the list that was put down, as the run reads it
-
-pub list-read : {bytes before after : List ℕ} {n : ℕ} → Put before 0 bytes after n → length bytes ≤ length before → take n after ≡ bytes
-list-read {bytes} {before} {after} {n} p h =
-    let whole : n ≡ length bytes = (let z = p .place in omega arith) in
-    ap₂ take whole (p .content ∙ sets-eq bytes before 0 (omega arith)) ∙ take-at bytes (drop (0 + length bytes) before) (length bytes) refl

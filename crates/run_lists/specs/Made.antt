@@ -19,13 +19,18 @@ use Rattle.run_lists.specs.Listed.{flat, trailerBytes, listOf}
 abbrev pub Small : Event → Type 0
 Small e = (e .kind < 256) × (e .node < 256)
 
+pub flat-both : (a b : List Event) → flat (a ++ b) ≡ flat a ++ flat b
+unfolding flat
+flat-both [] b = refl
+flat-both (e ∷ a) b = ap (λ (l : List ℕ). e .kind % 256 ∷ e .node % 256 ∷ l) (flat-both a b)
+
 pub flat-length : (es : List Event) → length (flat es) ≡ 2 * length es
 unfolding flat
 flat-length [] = omega arith
 flat-length (e ∷ es) = let z = flat-length es in omega arith
 
 -- Where there is no step.
-abbrev noStep : Event
+abbrev pub noStep : Event
 noStep = record { kind = 0; node = 0 }
 
 step-said : (es : List Event) (t : List ℕ) (i : ℕ) → i < length es → All Small es → getD es i noStep ≡ eventAt (flat es ++ t) (2 * i)

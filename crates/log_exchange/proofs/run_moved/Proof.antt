@@ -7,11 +7,11 @@ use lib.Seq.{length-take-le}
 use Rattle.any_list.specs.Arrays.{table}
 use Rattle.any_list.specs.Tables.{table-length}
 use Rattle.run.specs.Ran.{noWrites}
-use Rattle.any_text.specs.Puts.{put-length}
+use Rattle.any_text.specs.Puts.{put-length, put-read}
 use Rattle.run_difference.specs.Runs.{Written}
 use Rattle.run_lists.specs.Listed.{listOf}
 use Rattle.run_lists.specs.Made.{list-length}
-use Rattle.log_exchange.specs.Filling.{stepAt, list-read}
+use Rattle.log_exchange.specs.Filling.{stepAt}
 use Rattle.log_exchange.specs.Ran.{ran-list}
 use borrow.Author.Needs.{needs}
 use Rattle.log_exchange.proofs.run_moved.Statement.{statement}
@@ -29,7 +29,7 @@ ended c =
     let n = (table-length (c .before .before .before .before .before .before .before .before .before .before .args .n) (stepAt (c .before .before .before .before .before .before .before .before .before .before .args .rows .now) (c .before .before .before .before .before .before .before .before .before .before .args .up) (c .before .before .before .before .before .before .before .before .before .before .args .x) (c .before .before .before .before .before .before .before .before .before .before .args .y))) in
     let room = length-replicate {A = ℕ} 65536 0 in
     ran-list (c .before .before .before .before .before .before .before .before .before .before .args .nodes) (table (c .before .before .before .before .before .before .before .before .before .before .args .n) (stepAt (c .before .before .before .before .before .before .before .before .before .before .args .rows .now) (c .before .before .before .before .before .before .before .before .before .before .args .up) (c .before .before .before .before .before .before .before .before .before .before .args .x) (c .before .before .before .before .before .before .before .before .before .before .args .y))) (p .1) (p .2) (few c) n _ (c .before .before .before .before .before .before .before .before .before .before .args .out .now)
-    (list-read (c .before .before .before .before .before .before .put-list .ensures .0) (let q = p .0 in omega arith)) (p .5) (c .before .before .run .ensures .0) (c .before .before .run .ensures .1)
+    (put-read (c .before .before .before .before .before .before .put-list .ensures .0) (let q = p .0 in omega arith)) (p .5) (c .before .before .run .ensures .0) (c .before .before .run .ensures .1)
 
 slice-aggregate-put-list : tie.Need-slice-aggregate-put-list
 slice-aggregate-put-list c = search needs
