@@ -28,15 +28,15 @@ statusFor ids n = cond (eqb (masterOf ids) 0) notFound (cond (eqb (masterOf ids)
 unfoldable pub news : List ℕ → ℕ → Response
 news ids n = record { message = update; status = statusFor ids n; id = largest ids }
 
--- Every open stream is told, the first of the columns being node n's.
-unfoldable pub tellFrom : ℕ → List ℕ → List Bool → List (List Response) → List (List Response)
-tellFrom n ids [] qs = qs
-tellFrom n ids (o ∷ os) [] = []
-tellFrom n ids (o ∷ os) (q ∷ qs) = cond o (push (news ids n) q) q ∷ tellFrom (suc n) ids os qs
+-- Every open stream is told what there is to say to its node, the first of the columns being node n's.
+unfoldable pub tellFrom : ℕ → (ℕ → Response) → List Bool → List (List Response) → List (List Response)
+tellFrom n say [] qs = qs
+tellFrom n say (o ∷ os) [] = []
+tellFrom n say (o ∷ os) (q ∷ qs) = cond o (push (say n) q) q ∷ tellFrom (suc n) say os qs
 
 -- Every open stream is told.
-abbrev pub tellAll : List ℕ → List Bool → List (List Response) → List (List Response)
-tellAll ids opens responses = tellFrom 1 ids opens responses
+abbrev pub tellAll : (ℕ → Response) → List Bool → List (List Response) → List (List Response)
+tellAll say opens responses = tellFrom 1 say opens responses
 
 -- Every open stream has room to be told.
 unfoldable pub roomOpen : List Bool → List (List Response) → Bool

@@ -183,7 +183,7 @@ closed n v = record {
   isOpen = false;
   sent = 0;
   requests = [];
-  responses = cond (changes (v .ids) (idsLeft n v)) (tellAll (idsLeft n v) (opensLeft n v) (responsesLeft n v)) (responsesLeft n v);
+  responses = cond (changes (v .ids) (idsLeft n v)) (tellAll (news (idsLeft n v)) (opensLeft n v) (responsesLeft n v)) (responsesLeft n v);
   id = 0;
   term = 0;
 }
@@ -216,7 +216,7 @@ updated n v = record {
   requests = rest (v .requests);
   responses =
       cond (changes (v .ids) (idsWith n v))
-      (tellAll (idsWith n v) (v .opens) (v .responses))
+      (tellAll (news (idsWith n v)) (v .opens) (v .responses))
       (set (v .responses) (n - 1) (push (news (idsWith n v) n) (getD (v .responses) (n - 1) [])));
   id = asked v .id;
   term = asked v .term;

@@ -27,9 +27,9 @@ unfolding largest
 largest-le top [] h = omega arith
 largest-le top (x ∷ ids) h = let y : x ≤ top = h 0 in let z = largest-le top ids (λ i. h (suc i)) in omega arith
 
-news-fits : (ids : List ℕ) (n : ℕ) → ((i : ℕ) → getD ids i 0 ≤ topId) → ResponseFits (news ids n)
+news-fits : (ids : List ℕ) → ((i : ℕ) → getD ids i 0 ≤ topId) → (n : ℕ) → ResponseFits (news ids n)
 unfolding news statusFor
-news-fits ids n h = go (eqb (masterOf ids) 0) (eqb (masterOf ids) n)
+news-fits ids h n = go (eqb (masterOf ids) 0) (eqb (masterOf ids) n)
   where
     go : (a b : Bool) → AnswerFits update (cond a notFound (cond b ok alreadyExists)) (largest ids)
     go true b = largest-le topId ids h
@@ -38,38 +38,38 @@ news-fits ids n h = go (eqb (masterOf ids) 0) (eqb (masterOf ids) n)
 
 -- ---- every open stream is told
 
-module _ (ids : List ℕ) (high : (i : ℕ) → getD ids i 0 ≤ topId) where
-  told-size : (n : ℕ) (os : List Bool) (qs : List (List Response)) → length (tellFrom n ids os qs) ≡ length qs
+module _ (say : ℕ → Response) (fit : (n : ℕ) → ResponseFits (say n)) where
+  told-size : (n : ℕ) (os : List Bool) (qs : List (List Response)) → length (tellFrom n say os qs) ≡ length qs
   unfolding tellFrom
   told-size n [] qs = refl
   told-size n (o ∷ os) [] = refl
   told-size n (o ∷ os) (q ∷ qs) = ap suc (told-size (suc n) os qs)
 
   told-queues : (n : ℕ) (os : List Bool) (qs : List (List Response)) → T (roomOpen os qs) → ((i : ℕ) → QueueFits ResponseFits (getD qs i []))
-      → (i : ℕ) → QueueFits ResponseFits (getD (tellFrom n ids os qs) i [])
+      → (i : ℕ) → QueueFits ResponseFits (getD (tellFrom n say os qs) i [])
   unfolding tellFrom roomOpen
   told-queues n [] qs r h i = h i
   told-queues n (o ∷ os) [] r h i = h i
   told-queues n (o ∷ os) (q ∷ qs) r h i = at i ((as-is (not o || room q) & as-is (roomOpen os qs)) .to r) (told-queues (suc n) os qs)
     where
-      one : (b : Bool) → T (not b || room q) → QueueFits ResponseFits (cond b (push (news ids n) q) q)
-      one true t = queue-push ResponseFits (news ids n) q (news-fits ids n high) t (h 0)
+      one : (b : Bool) → T (not b || room q) → QueueFits ResponseFits (cond b (push (say n) q) q)
+      one true t = queue-push ResponseFits (say n) q (fit n) t (h 0)
       one false t = h 0
 
       at : (i : ℕ) → T (not o || room q) × T (roomOpen os qs)
-          → (T (roomOpen os qs) → ((i : ℕ) → QueueFits ResponseFits (getD qs i [])) → (i : ℕ) → QueueFits ResponseFits (getD (tellFrom (suc n) ids os qs) i []))
-          → QueueFits ResponseFits (getD (cond o (push (news ids n) q) q ∷ tellFrom (suc n) ids os qs) i [])
+          → (T (roomOpen os qs) → ((i : ℕ) → QueueFits ResponseFits (getD qs i [])) → (i : ℕ) → QueueFits ResponseFits (getD (tellFrom (suc n) say os qs) i []))
+          → QueueFits ResponseFits (getD (cond o (push (say n) q) q ∷ tellFrom (suc n) say os qs) i [])
       at zero t more = one o (t .0)
       at (suc i) t more = more (t .1) (λ i. h (suc i)) i
 
-  told-closed : (n : ℕ) (os : List Bool) (qs : List (List Response)) (i : ℕ) → getD os i false ≡ false → getD (tellFrom n ids os qs) i [] ≡ getD qs i []
+  told-closed : (n : ℕ) (os : List Bool) (qs : List (List Response)) (i : ℕ) → getD os i false ≡ false → getD (tellFrom n say os qs) i [] ≡ getD qs i []
   unfolding tellFrom
   told-closed n [] qs i h = refl
   told-closed n (o ∷ os) [] i h = refl
   told-closed n (o ∷ os) (q ∷ qs) zero h = rw h
   told-closed n (o ∷ os) (q ∷ qs) (suc i) h = told-closed (suc n) os qs i h
 
-  told-fits : (count : ℕ) (os : List Bool) (qs : List (List Response)) → T (roomOpen os qs) → ResponsesFit count os qs → ResponsesFit count os (tellAll ids os qs)
+  told-fits : (count : ℕ) (os : List Bool) (qs : List (List Response)) → T (roomOpen os qs) → ResponsesFit count os qs → ResponsesFit count os (tellAll say os qs)
   told-fits count os qs r h = record {
     size = told-size 1 os qs ∙ h .size;
     queues = told-queues 1 os qs r (h .queues);
@@ -115,8 +115,8 @@ module _ {count : ℕ} {running : Bool} {w : Board} (h : BoardFits count running
   }
     where
       go : (b : Bool) → T (not b || roomOpen (opensLeft n v) (responsesLeft n v))
-          → ResponsesFit count (opensLeft n v) (cond b (tellAll (idsLeft n v) (opensLeft n v) (responsesLeft n v)) (responsesLeft n v))
-      go true t = told-fits (idsLeft n v) (ids-high 0 (omega arith)) count (opensLeft n v) (responsesLeft n v) t left-fits
+          → ResponsesFit count (opensLeft n v) (cond b (tellAll (news (idsLeft n v)) (opensLeft n v) (responsesLeft n v)) (responsesLeft n v))
+      go true t = told-fits (news (idsLeft n v)) (news-fits (idsLeft n v) (ids-high 0 (omega arith))) count (opensLeft n v) (responsesLeft n v) t left-fits
       go false t = left-fits
 
   pub close-fits : Passes (closeRule n) v → Anew count running w n (closeRule n .effect v)
@@ -137,15 +137,15 @@ module _ {count : ℕ} {running : Bool} {w : Board} (h : BoardFits count running
     stopped = λ e. absurd (true≢false (sym r ∙ e));
   }
     where
-      news-fit : ResponseFits (news (idsWith n v) n)
-      news-fit = news-fits (idsWith n v) n (ids-high (asked v .id) (k .id .upper))
+      told : (m : ℕ) → ResponseFits (news (idsWith n v) m)
+      told = news-fits (idsWith n v) (ids-high (asked v .id) (k .id .upper))
 
       go : (b : Bool) → T (cond b (roomOpen (w .opens) (w .responses)) (room (getD (w .responses) (n - 1) [])))
           → ResponsesFit count (w .opens)
-          (cond b (tellAll (idsWith n v) (w .opens) (w .responses)) (set (w .responses) (n - 1) (push (news (idsWith n v) n) (getD (w .responses) (n - 1) []))))
-      go true t = told-fits (idsWith n v) (ids-high (asked v .id) (k .id .upper)) count (w .opens) (w .responses) t (responses-fit h)
+          (cond b (tellAll (news (idsWith n v)) (w .opens) (w .responses)) (set (w .responses) (n - 1) (push (news (idsWith n v) n) (getD (w .responses) (n - 1) []))))
+      go true t = told-fits (news (idsWith n v)) told count (w .opens) (w .responses) t (responses-fit h)
       go false t = own-queue (n - 1) o
-          (queue-push ResponseFits _ (getD (w .responses) (n - 1) []) news-fit t (h .streams (n - 1) .responses-fit)) (responses-fit h)
+          (queue-push ResponseFits _ (getD (w .responses) (n - 1) []) (told n) t (h .streams (n - 1) .responses-fit)) (responses-fit h)
 
   pub handle-update-fits : Passes (handleUpdateRule n) v → Anew count running w n (handleUpdateRule n .effect v)
   unfolding handleUpdateRule

@@ -224,6 +224,7 @@ pub fn board_after(ask: Ask, streams: [Stream; 8], claims: Claims) -> Board
     ensures { λ r. ⌜ r ≡ boardAfter ask streams claims ⌝ }
 {
     let kind = ask.kind;
+    let last = claims.last;
     match kind {
         step_parts::CLOSE => step_switch::close(ask.count, ask.node, streams, claims),
         step_parts::HANDLE_UPDATE => step_switch::handle_update(
@@ -232,7 +233,7 @@ pub fn board_after(ask: Ask, streams: [Stream; 8], claims: Claims) -> Board
             streams,
             claims,
         ),
-        step_parts::SHUTDOWN => step_switch::shutdown(ask.count, streams, claims),
+        step_parts::SHUTDOWN => step_state::blank_board(last),
         _ => Board {
             streams: streams,
             claims: claims,

@@ -1,33 +1,82 @@
--- The core of a fresh state. Assumes nothing.
+-- What is blank in every row: the core of a fresh state, and the board after a shutdown. Assumes nothing.
 use mathlib.Core.Path.{_≡_, refl, sym}
 use mathlib.Core.Bool.{false}
-use mathlib.Core.List.{[]}
+use mathlib.Core.List.{List, [], _∷_, map}
 use Prim.Native.Nat.{ℕ, zero, suc}
 use lib.ListN.{getD, replicate}
 use Rattle.rules.specs.Limits.{mostNodes}
 use Rattle.rules.specs.State as S
+use Rattle.rules.specs.Rules.{cleared}
 use Rattle.rules.specs.Step.{fresh}
 use Rattle.any_list.specs.Tables.{table-ext}
 use Rattle.step_parts.specs.Hold.{packMastership}
 use Rattle.step_state.specs.Hold.{packController, packStream, controllerRow, streamRow, idRow, termRow, packControllers, packStreams, packClaims, packCore}
+use Rattle.step_state.specs.Stores.{packBoard, bare}
 
-same : {A : Type 0} (count : ℕ) (d : A) (i : ℕ) → getD (replicate count d) i d ≡ d
+-- A column of blanks, however long it is.
+abbrev Blank : {A : Type 0} → A → List A → Type 0
+Blank d l = (i : ℕ) → getD l i d ≡ d
+
+same : {A : Type 0} (count : ℕ) (d : A) → Blank d (replicate count d)
 same zero d i = refl
 same (suc count) d zero = refl
 same (suc count) d (suc i) = same count d i
 
+gone : {A : Type 0} (d : A) (l : List A) → Blank d (map (λ x. d) l)
+gone d [] i = refl
+gone d (x ∷ l) zero = refl
+gone d (x ∷ l) (suc i) = gone d l i
+
+record BlankBoard (w : S.Board) : Type 0 where
+  opens : Blank false (w .opens)
+  sent : Blank 0 (w .sent)
+  requests : Blank [] (w .requests)
+  responses : Blank [] (w .responses)
+  ids : Blank 0 (w .ids)
+  terms : Blank 0 (w .terms)
+
+bare-board : (w : S.Board) → BlankBoard w → packBoard (bare (w .last)) ≡ packBoard w
+unfolding packStreams packClaims
+bare-board w b = λ j. record {
+  streams = sym (table-ext mostNodes (λ i. packStream false 0 [] []) (streamRow w)
+      (λ i k. packStream (b .opens i k) (b .sent i k) (b .requests i k) (b .responses i k))) j;
+  claims = record {
+    ids = sym (table-ext mostNodes (idRow []) (idRow (w .ids)) (λ i k. record { 0 = b .ids i k })) j;
+    terms = sym (table-ext mostNodes (termRow []) (termRow (w .terms)) (λ i k. record { 0 = b .terms i k })) j;
+    last = record { 0 = w .last };
+  };
+}
+
+fresh-bare : (count : ℕ) → packBoard (bare 0) ≡ packBoard (fresh count .core .board)
+unfolding fresh
+fresh-bare count = bare-board (fresh count .core .board) (record {
+  opens = same count false;
+  sent = same count 0;
+  requests = same count [];
+  responses = same count [];
+  ids = same count 0;
+  terms = same count 0;
+})
+
 -- A fresh core is blank in every row, however many nodes there are.
 pub blank-core : (count : ℕ) → packCore (fresh 0 .core) ≡ packCore (fresh count .core)
-unfolding packCore fresh packControllers packStreams packClaims
+unfolding packCore fresh packControllers
 blank-core count = λ j. record {
   service = packMastership S.blank;
   controllers = sym (table-ext mostNodes (λ i. packController [] S.blank false) (controllerRow (replicate count []) (replicate count S.blank) (replicate count false))
       (λ i k. packController (same count [] i k) (same count S.blank i k) (same count false i k))) j;
-  streams = sym (table-ext mostNodes (λ i. packStream false 0 [] []) (streamRow (fresh count .core .board))
-      (λ i k. packStream (same count false i k) (same count 0 i k) (same count [] i k) (same count [] i k))) j;
-  claims = record {
-    ids = sym (table-ext mostNodes (idRow []) (idRow (replicate count 0)) (λ i k. record { 0 = same count 0 i k })) j;
-    terms = sym (table-ext mostNodes (termRow []) (termRow (replicate count 0)) (λ i k. record { 0 = same count 0 i k })) j;
-    last = record { 0 = 0 };
-  };
+  streams = fresh-bare count j .streams;
+  claims = fresh-bare count j .claims;
 }
+
+-- So is a board that is cleared, but for the last accepted term.
+pub cleared-bare : (w : S.Board) → packBoard (bare (w .last)) ≡ packBoard (cleared w)
+unfolding cleared
+cleared-bare w = bare-board (cleared w) (record {
+  opens = gone false (w .opens);
+  sent = gone 0 (w .sent);
+  requests = gone [] (w .requests);
+  responses = gone [] (w .responses);
+  ids = gone 0 (w .ids);
+  terms = gone 0 (w .terms);
+})

@@ -1,12 +1,12 @@
 -- What each class of steps writes, stored into the structs that it concerns.
-use mathlib.Core.Bool.{Bool, true}
+use mathlib.Core.Bool.{Bool, true, false}
 use mathlib.Core.List.{List, []}
 use Prim.Native.Nat.{ℕ}
 use Rattle.rules.specs.State as S
 use Rattle.rules.specs.Parts.{Inbox, Sent, Received, Telling, Serving, tellPart}
 use Rattle.any_list.specs.Arrays.{column}
 use Rattle.step_parts.specs.Hold.{packMastership, packEvents, packRequests, packResponses}
-use Rattle.step_state.specs.Hold.{learnedAt, saysAt, holdBoard, packControllers, packStreams, packClaims}
+use Rattle.step_state.specs.Hold.{learnedAt, saysAt, holdBoard, packStream, packControllers, packStreams, packClaims}
 use Rattle.step_state.specs.declared.Controller.{Controller}
 use Rattle.step_state.specs.declared.Stream.{Stream}
 use Rattle.step_state.specs.declared.Claims.{Claims}
@@ -38,6 +38,13 @@ storeOpen w s = record { opened = w; sent = s .sent; requests = s .requests; res
 -- the board, whole
 abbrev pub packBoard : S.Board → Board
 packBoard w = record { streams = packStreams w; claims = packClaims w }
+
+abbrev pub closedStream : Stream
+closedStream = packStream false 0 [] []
+
+-- 12: no stream is open, the switch holds nothing of any node, and this is the last accepted term
+abbrev pub bare : ℕ → S.Board
+bare last = record { opens = []; sent = []; requests = []; responses = []; ids = []; terms = []; last = last }
 
 -- 9, 10
 unfoldable pub storeTelling : ℕ → Telling → ℕ → List Stream → Claims → Board

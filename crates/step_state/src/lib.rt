@@ -6,6 +6,7 @@ ghost use Rattle.rules.specs.Queues.{before};
 ghost use Rattle.rules.specs.Step.{fresh};
 ghost use Rattle.any_list.specs.Arrays.{column};
 ghost use Rattle.step_state.specs.Hold.{idAt, packCore};
+ghost use Rattle.step_state.specs.Stores.{packBoard, closedStream, bare};
 use step_parts::ElectionId;
 use step_parts::EventQueue;
 use step_parts::Mastership;
@@ -104,6 +105,36 @@ pub fn id_place(count: u8, id: ElectionId, ids: [ElectionId; 8]) -> u8
     count
 }
 
+// A closed stream.
+pub fn closed_stream() -> Stream
+    ensures { λ r. ⌜ r ≡ closedStream ⌝ }
+{
+    let requests = RequestQueue::empty();
+    let responses = ResponseQueue::empty();
+    Stream {
+        opened: false,
+        sent: Term(0),
+        requests: requests,
+        responses: responses,
+    }
+}
+
+// A board with nothing on it, but the last accepted term: what 12 Shutdown leaves, however many nodes there are.
+pub fn blank_board(last: Term) -> Board
+    ensures { λ r. ⌜ r ≡ packBoard (bare (last .0)) ⌝ }
+{
+    let stream = closed_stream();
+    let claims = Claims {
+        ids: [ElectionId(0); 8],
+        terms: [Term(0); 8],
+        last: last,
+    };
+    Board {
+        streams: [stream; 8],
+        claims: claims,
+    }
+}
+
 // What a role owns before any step: nothing in any row, however many nodes there are.
 pub fn blank_core() -> Core
     ensures { λ r. ⌜ ((count : ℕ) → r ≡ packCore (fresh count .core)) ⌝ }
@@ -114,21 +145,13 @@ pub fn blank_core() -> Core
         learned: blank,
         says: false,
     };
-    let stream = Stream {
-        opened: false,
-        sent: Term(0),
-        requests: RequestQueue::empty(),
-        responses: ResponseQueue::empty(),
-    };
-    let claims = Claims {
-        ids: [ElectionId(0); 8],
-        terms: [Term(0); 8],
-        last: Term(0),
-    };
+    let board = blank_board(Term(0));
+    let streams = board.streams;
+    let claims = board.claims;
     Core {
         service: blank,
         controllers: [controller; 8],
-        streams: [stream; 8],
+        streams: streams,
         claims: claims,
     }
 }

@@ -4,7 +4,7 @@ use mathlib.Core.List.{List}
 use Prim.Native.Nat.{ℕ, _+_}
 use lib.ListN.{getD}
 use Rattle.rules.specs.Queues.{first, empty}
-use Rattle.rules.specs.Election.{news}
+use Rattle.rules.specs.State as S
 use Rattle.rules.specs.Rules.{noRequest}
 use Rattle.step_parts.specs.Hold.{holdRequests, packMessage, packResponse}
 use Rattle.step_parts.specs.Queues.{popRequest, pushResponse}
@@ -23,9 +23,9 @@ abbrev pub withoutHead : Stream → Stream
 withoutHead s = record { opened = s .opened; sent = s .sent; requests = popRequest (s .requests); responses = s .responses }
 
 -- The row at place i after all open streams are told.
-abbrev pub tellRow : List Bool → List ℕ → List Stream → ℕ → Stream
-tellRow opens ids streams i =
-    cond (getD opens i false) (responded (packResponse (news ids (i + 1))) (getD streams i pastStream)) (getD streams i pastStream)
+abbrev pub tellRow : List Bool → (ℕ → S.Response) → List Stream → ℕ → Stream
+tellRow opens say streams i =
+    cond (getD opens i false) (responded (packResponse (say (i + 1))) (getD streams i pastStream)) (getD streams i pastStream)
 
 -- The switch runs, the stream is open, and a request waits on it.
 abbrev pub able : Bool → Stream → Bool

@@ -163,7 +163,7 @@ pub fn tell_room(count: u8, streams: [Stream; 8]) -> bool
 // Every open stream is told, from the lowest node on.
 pub fn tell_all(count: u8, ids: [ElectionId; 8], streams: [Stream; 8]) -> [Stream; 8]
     requires { ⌜ count ≤ mostNodes ⌝ }
-    ensures { λ r. ⌜ r ≡ table mostNodes (tellRow (column openAt count streams) (column idAt count ids) streams) ⌝ }
+    ensures { λ r. ⌜ r ≡ table mostNodes (tellRow (column openAt count streams) (news (column idAt count ids)) streams) ⌝ }
 {
     let top = largest_id(count, ids);
     let master = master_of(count, ids);

@@ -12,7 +12,7 @@ use Rattle.rules.specs.Codes.{stepDone}
 use Rattle.rules.specs.State as S
 use Rattle.rules.specs.Part.{decide}
 use Rattle.rules.specs.Parts.{Told}
-use Rattle.rules.specs.Election.{roomOpen}
+use Rattle.rules.specs.Election.{news, roomOpen}
 use Rattle.rules.specs.Rules.{changes, idsLeft, opensLeft, responsesLeft, closeRoom, closed, closeRule}
 use Rattle.any_list.specs.Arrays.{column, table}
 use Rattle.any_list.specs.Columns.{column-at, column-set}
@@ -21,7 +21,7 @@ use Rattle.step_parts.specs.declared.ElectionId.{ElectionId}
 use Rattle.step_state.specs.Hold.{holdBoard, packStreams, packClaims, openAt, responsesAt, idAt}
 use Rattle.step_state.specs.Order.{OrderedStream, pastStream}
 use Rattle.step_state.specs.Reads.{answerOf, toldOf}
-use Rattle.step_state.specs.Stores.{packBoard, storeTelling}
+use Rattle.step_state.specs.Stores.{packBoard, closedStream, storeTelling}
 use Rattle.step_state.specs.declared.Stream.{Stream}
 use Rattle.step_state.specs.declared.Claims.{Claims}
 use Rattle.step_state.specs.declared.Board.{Board}
@@ -29,7 +29,7 @@ use Rattle.step_streams.specs.Asks.{OrderedRows}
 use Rattle.step_streams.specs.Does.{tellRow}
 use Rattle.step_streams.proofs.Answers.{answer-by, byTests, clear}
 use Rattle.step_switch.specs.Asks.{AtBoard}
-use Rattle.step_switch.specs.Does.{closedStream, clearedAt, withClaim}
+use Rattle.step_switch.specs.Does.{clearedAt, withClaim}
 use Rattle.step_switch.proofs.Storing.{put, shut, lands-shut, blank-back, store-row, store-claim, sized, rows-eight}
 use Rattle.step_switch.proofs.Telling.{all-told}
 
@@ -37,7 +37,7 @@ use Rattle.step_switch.proofs.Telling.{all-told}
 abbrev pub without : ℕ → S.Board → S.Board
 without n w = put n (shut (set (w .responses) (n - 1) [])) w
 
-pub board-without : (n : ℕ) (w : S.Board) → clearedAt n (packStreams w) (packClaims w) ≡ packBoard (without n w)
+board-without : (n : ℕ) (w : S.Board) → clearedAt n (packStreams w) (packClaims w) ≡ packBoard (without n w)
 board-without n w =
     let x = shut (set (w .responses) (n - 1) []) in
     let l = lands-shut n (set (w .responses) (n - 1) []) w in
@@ -134,7 +134,7 @@ module _ {count n : ℕ} {streams : List Stream} {claims : Claims} (h : AtBoard 
   closed-quiet e = without-is ∙ simp (change-is false e)
 
   pub closed-told : shifts ≡ true → closeRoom n v ≡ true
-      → record { streams = table mostNodes (tellRow (column openAt count others) (column idAt count idsThen) others); claims = withClaim n (record { 0 = 0 }) (record { 0 = 0 }) claims }
+      → record { streams = table mostNodes (tellRow (column openAt count others) (news (column idAt count idsThen)) others); claims = withClaim n (record { 0 = 0 }) (record { 0 = 0 }) claims }
       ≡ storeTelling n (closed n v) count streams claims
   unfolding closed idsLeft opensLeft responsesLeft storeTelling packClaims
   closed-told e f =
@@ -142,6 +142,6 @@ module _ {count n : ℕ} {streams : List Stream} {claims : Claims} (h : AtBoard 
       let n₁ : length (without n w .opens) ≡ length (without n w .responses) = length-set (w .opens) (n - 1) false ∙ s .opens ∙ sym (s .responses) ∙ sym (length-set (w .responses) (n - 1) []) in
       let roomy : roomOpen (without n w .opens) (without n w .responses) ≡ true = ap₂ roomOpen (sym opens-then) (sym responses-then) ∙ sym (room-told e) ∙ f in
       let rows : packStreams (without n w) ≡ others = ap (λ (x : Board). x .streams) (sym without-is) in
-      ap₂ {C = Board} (λ (a : List Bool) (i : List ℕ). record { streams = table mostNodes (tellRow a i others); claims = withClaim n (record { 0 = 0 }) (record { 0 = 0 }) claims }) opens-then ids-then
-      ∙ (λ i. record { streams = all-told (without n w) n₁ roomy others rows i; claims = without-is i .claims })
+      ap₂ {C = Board} (λ (a : List Bool) (i : List ℕ). record { streams = table mostNodes (tellRow a (news i) others); claims = withClaim n (record { 0 = 0 }) (record { 0 = 0 }) claims }) opens-then ids-then
+      ∙ (λ i. record { streams = all-told (news (without n w .ids)) (without n w) n₁ roomy others rows i; claims = without-is i .claims })
       ∙ simp (change-is true e)

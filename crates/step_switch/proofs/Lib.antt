@@ -1,6 +1,5 @@
 pub mod Storing
 pub mod Telling
 pub mod Closing
-pub mod Clearing
 pub mod Updating
 pub mod Callers

@@ -11,7 +11,7 @@ use borrow.Author.Tests.{lt-leb}
 use Rattle.rules.specs.Limits.{mostNodes, queueLength}
 use Rattle.rules.specs.State as S
 use Rattle.rules.specs.Queues.{push, room}
-use Rattle.rules.specs.Election.{news, tellFrom, tellAll, roomOpen}
+use Rattle.rules.specs.Election.{tellFrom, tellAll, roomOpen}
 use Rattle.any_list.specs.Padded.{held-padded}
 use Rattle.any_list.specs.Arrays.{table}
 use Rattle.any_list.specs.Tables.{table-of, table-get, table-length}
@@ -50,13 +50,13 @@ room-at (b ∷ os) (q ∷ qs) (suc i) n e o = room-at os qs i (let k : suc (leng
     go false b e = let z : _≡_ {A = ℕ} 0 1 = cc in absurd (omega arith)
 
 -- the responses of the node at place i
-tell-at : (k : ℕ) (ids : List ℕ) (opens : List Bool) (qs : List (List S.Response)) (i : ℕ) → length opens ≡ length qs
-    → getD (tellFrom k ids opens qs) i [] ≡ cond (getD opens i false) (push (news ids (k + i)) (getD qs i [])) (getD qs i [])
+tell-at : (k : ℕ) (say : ℕ → S.Response) (opens : List Bool) (qs : List (List S.Response)) (i : ℕ) → length opens ≡ length qs
+    → getD (tellFrom k say opens qs) i [] ≡ cond (getD opens i false) (push (say (k + i)) (getD qs i [])) (getD qs i [])
 unfolding tellFrom
-tell-at k ids [] qs i n = refl
-tell-at k ids (o ∷ os) [] i n = absurd (omega arith)
-tell-at k ids (o ∷ os) (q ∷ qs) zero n = rw (add-zero k)
-tell-at k ids (o ∷ os) (q ∷ qs) (suc i) n = rw (add-suc k i, ← suc-add k i) (tell-at (suc k) ids os qs i (let e : suc (length os) ≡ suc (length qs) = n in omega arith))
+tell-at k say [] qs i n = refl
+tell-at k say (o ∷ os) [] i n = absurd (omega arith)
+tell-at k say (o ∷ os) (q ∷ qs) zero n = rw (add-zero k)
+tell-at k say (o ∷ os) (q ∷ qs) (suc i) n = rw (add-suc k i, ← suc-add k i) (tell-at (suc k) say os qs i (let e : suc (length os) ≡ suc (length qs) = n in omega arith))
 
 abbrev pub withResponses : List (List S.Response) → S.Board → S.Board
 withResponses responses w = record {
@@ -69,23 +69,23 @@ withResponses responses w = record {
   last = w .last;
 }
 
-module _ (w : S.Board) (n : length (w .opens) ≡ length (w .responses)) (roomy : roomOpen (w .opens) (w .responses) ≡ true) where
+module _ (say : ℕ → S.Response) (w : S.Board) (n : length (w .opens) ≡ length (w .responses)) (roomy : roomOpen (w .opens) (w .responses) ≡ true) where
   row-told : (i : ℕ) (b : Bool) → getD (w .opens) i false ≡ b
-      → cond b (responded (packResponse (news (w .ids) (i + 1))) (streamRow w i)) (streamRow w i)
-      ≡ packStream (getD (w .opens) i false) (getD (w .sent) i 0) (getD (w .requests) i []) (cond b (push (news (w .ids) (i + 1)) (getD (w .responses) i [])) (getD (w .responses) i []))
+      → cond b (responded (packResponse (say (i + 1))) (streamRow w i)) (streamRow w i)
+      ≡ packStream (getD (w .opens) i false) (getD (w .sent) i 0) (getD (w .requests) i []) (cond b (push (say (i + 1)) (getD (w .responses) i [])) (getD (w .responses) i []))
   row-told i false e = refl
   row-told i true e =
       ap (λ q. record { opened = getD (w .opens) i false; sent = streamRow w i .sent; requests = streamRow w i .requests; responses = q })
-      (push-packed (news (w .ids) (i + 1)) (getD (w .responses) i []) (room-at (w .opens) (w .responses) i n roomy e))
+      (push-packed (say (i + 1)) (getD (w .responses) i []) (room-at (w .opens) (w .responses) i n roomy e))
 
-  pub all-told : (streams : List Stream) → packStreams w ≡ streams → table mostNodes (tellRow (w .opens) (w .ids) streams) ≡ packStreams (withResponses (tellAll (w .ids) (w .opens) (w .responses)) w)
+  pub all-told : (streams : List Stream) → packStreams w ≡ streams → table mostNodes (tellRow (w .opens) say streams) ≡ packStreams (withResponses (tellAll say (w .opens) (w .responses)) w)
   unfolding packStreams
   all-told streams e =
-      let new = tellRow (w .opens) (w .ids) streams in
-      table-of mostNodes (streamRow (withResponses (tellAll (w .ids) (w .opens) (w .responses)) w)) (table mostNodes new) pastStream (table-length mostNodes new) (λ i lt.
+      let new = tellRow (w .opens) say streams in
+      table-of mostNodes (streamRow (withResponses (tellAll say (w .opens) (w .responses)) w)) (table mostNodes new) pastStream (table-length mostNodes new) (λ i lt.
       table-get mostNodes new i pastStream lt
-      ∙ ap (λ (r : Stream). cond (getD (w .opens) i false) (responded (packResponse (news (w .ids) (i + 1))) r) r) (row-at w streams e i lt)
+      ∙ ap (λ (r : Stream). cond (getD (w .opens) i false) (responded (packResponse (say (i + 1))) r) r) (row-at w streams e i lt)
       ∙ row-told i (getD (w .opens) i false) refl
       ∙ ap (λ (q : List S.Response). packStream (getD (w .opens) i false) (getD (w .sent) i 0) (getD (w .requests) i []) q)
-      (ap (λ (k : ℕ). cond (getD (w .opens) i false) (push (news (w .ids) k) (getD (w .responses) i [])) (getD (w .responses) i [])) (omega arith)
-      ∙ sym (tell-at 1 (w .ids) (w .opens) (w .responses) i n)))
+      (ap (λ (k : ℕ). cond (getD (w .opens) i false) (push (say k) (getD (w .responses) i [])) (getD (w .responses) i [])) (omega arith)
+      ∙ sym (tell-at 1 say (w .opens) (w .responses) i n)))

@@ -209,7 +209,7 @@ module _ {count n : ℕ} {streams : List Stream} {claims : Claims} (u : UpdateAt
   -- the master changes, and all are told
   pub updated-all : shifts ≡ true → updateRoom n v ≡ true
       → (let next = set streams (n - 1) (withoutHead r) in
-      record { streams = table mostNodes (tellRow (column openAt count next) (column idAt count idsThen) next); claims = claimsThen }
+      record { streams = table mostNodes (tellRow (column openAt count next) (news (column idAt count idsThen)) next); claims = claimsThen }
       ≡ storeTelling n (updated n v) count streams claims)
   unfolding updated idsWith storeTelling packClaims
   updated-all e f =
@@ -217,9 +217,9 @@ module _ {count n : ℕ} {streams : List Stream} {claims : Claims} (u : UpdateAt
       let next = set streams (n - 1) (withoutHead r) in
       let after = put n (took (w .responses)) w in
       let k : length (after .opens) ≡ length (after .responses) = length-set (w .opens) (n - 1) true ∙ s .opens ∙ sym (s .responses) in
-      ap₂ {C = Board} (λ (o : List Bool) (i : List ℕ). record { streams = table mostNodes (tellRow o i next); claims = claimsThen }) opens-then ids-then
-      ∙ (λ i. record { streams = all-told after k (roomy e f) next (sym rows-are) i; claims = claims-are (w .responses) i })
-      ∙ ap (λ (o : List Bool). packBoard (put n (took (tellAll (after .ids) o (w .responses))) w)) opens-stay
+      ap₂ {C = Board} (λ (o : List Bool) (i : List ℕ). record { streams = table mostNodes (tellRow o (news i) next); claims = claimsThen }) opens-then ids-then
+      ∙ (λ i. record { streams = all-told (news (after .ids)) after k (roomy e f) next (sym rows-are) i; claims = claims-are (w .responses) i })
+      ∙ ap (λ (o : List Bool). packBoard (put n (took (tellAll (news (after .ids)) o (w .responses))) w)) opens-stay
       ∙ simp (change-is true e)
 
   -- the master stays, and only n is told

@@ -1,6 +1,6 @@
 -- What the functions that no other crate calls do to rows and arrays. Assumes nothing.
-use mathlib.Core.Bool.{Bool, false}
-use mathlib.Core.List.{List, []}
+use mathlib.Core.Bool.{Bool}
+use mathlib.Core.List.{List}
 use Prim.Native.Nat.{ℕ, _-_}
 use lib.ListN.{set}
 use Rattle.rules.specs.Election.{taken}
@@ -8,13 +8,10 @@ use Rattle.rules.specs.Parts.{Told}
 use Rattle.rules.specs.Rules.{asked}
 use Rattle.step_parts.specs.declared.ElectionId.{ElectionId}
 use Rattle.step_parts.specs.declared.Term.{Term}
-use Rattle.step_state.specs.Hold.{packStream}
+use Rattle.step_state.specs.Stores.{closedStream}
 use Rattle.step_state.specs.declared.Stream.{Stream}
 use Rattle.step_state.specs.declared.Claims.{Claims}
 use Rattle.step_state.specs.declared.Board.{Board}
-
-abbrev pub closedStream : Stream
-closedStream = packStream false 0 [] []
 
 abbrev pub withClaim : ℕ → ElectionId → Term → Claims → Claims
 withClaim n id term c = record { ids = set (c .ids) (n - 1) id; terms = set (c .terms) (n - 1) term; last = c .last }

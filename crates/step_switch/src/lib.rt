@@ -1,4 +1,4 @@
-// The switch's steps that concern all streams: kinds 9, 10 and 12. Kind 13 is the flag alone.
+// The switch's steps that concern all streams: kinds 9 and 10.
 // A step is two functions: one gives its answer code and only reads, the other does what is to be done where the code is 0.
 ghost use mathlib.Core.Path.{_≡_};
 ghost use mathlib.Core.Bool.{true};
@@ -6,35 +6,17 @@ ghost use Prim.Native.Nat.{_≤_};
 ghost use Rattle.rules.specs.Limits.{mostNodes};
 ghost use Rattle.rules.specs.Part.{decide};
 ghost use Rattle.rules.specs.Rules as R;
-ghost use Rattle.rules.specs.Rules.{closeRule, closeRoom, handleUpdateRule, updateRoom, cleared};
-ghost use Rattle.step_state.specs.Hold.{holdBoard};
-ghost use Rattle.step_state.specs.Order.{OrderedBoard};
+ghost use Rattle.rules.specs.Rules.{closeRule, closeRoom, handleUpdateRule, updateRoom};
 ghost use Rattle.step_state.specs.Reads.{answerOf, toldOf};
-ghost use Rattle.step_state.specs.Stores.{storeTelling, packBoard};
+ghost use Rattle.step_state.specs.Stores.{storeTelling};
 ghost use Rattle.step_switch.specs.Asks.{AtBoard, Tells, UpdateAt, CanUpdate};
-ghost use Rattle.step_switch.specs.Does.{closedStream, withClaim, clearedAt, collides};
+ghost use Rattle.step_switch.specs.Does.{withClaim, clearedAt, collides};
 use step_parts::ElectionId;
 use step_parts::Message;
-use step_parts::RequestQueue;
-use step_parts::ResponseQueue;
 use step_parts::Term;
 use step_state::Board;
 use step_state::Claims;
 use step_state::Stream;
-
-// A closed stream.
-fn closed_stream() -> Stream
-    ensures { λ r. ⌜ r ≡ closedStream ⌝ }
-{
-    let requests = RequestQueue::empty();
-    let responses = ResponseQueue::empty();
-    Stream {
-        opened: false,
-        sent: Term(0),
-        requests: requests,
-        responses: responses,
-    }
-}
 
 // The switch holds this id and this term for the node.
 fn with_claim(node: u8, id: ElectionId, term: Term, claims: Claims) -> Claims
@@ -55,7 +37,7 @@ fn cleared_at(node: u8, streams: [Stream; 8], claims: Claims) -> Board
 {
     let at = (node - 1) as usize;
     let mut next = streams;
-    next[at] = closed_stream();
+    next[at] = step_state::closed_stream();
     let cleared = with_claim(node, ElectionId(0), Term(0), claims);
     Board {
         streams: next,
@@ -74,7 +56,7 @@ fn close_room(count: u8, node: u8, streams: [Stream; 8], claims: Claims) -> bool
     left[at] = ElectionId(0);
     if step_streams::master_changes(count, ids, left) {
         let mut others = streams;
-        others[at] = closed_stream();
+        others[at] = step_state::closed_stream();
         return step_streams::tell_room(count, others);
     }
     true
@@ -226,23 +208,4 @@ pub fn handle_update(count: u8, node: u8, streams: [Stream; 8], claims: Claims) 
         return close(count, node, streams, claims);
     }
     updated(count, node, streams, claims)
-}
-
-// 12 Shutdown: every stream is closed, with nobody told. The last accepted term stays.
-pub fn shutdown(count: u8, streams: [Stream; 8], claims: Claims) -> Board
-    requires { ⌜ OrderedBoard count streams claims ⌝ }
-    ensures { λ r. ⌜ r ≡ packBoard (cleared (holdBoard count streams claims)) ⌝ }
-{
-    let mut next = Board {
-        streams: streams,
-        claims: claims,
-    };
-    let mut node: u8 = 0;
-    while node < count {
-        node += 1;
-        let rows = next.streams;
-        let held = next.claims;
-        next = cleared_at(node, rows, held);
-    }
-    next
 }

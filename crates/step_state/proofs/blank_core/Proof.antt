@@ -1,6 +1,6 @@
 -- `blank_core` meets its contract. Assumes nothing.
 use Rattle.rules.specs.Step.{fresh}
-use Rattle.step_state.specs.Hold.{packCore, packControllers, packStreams, packClaims}
+use Rattle.step_state.specs.Hold.{packCore, packControllers}
 use Rattle.step_state.specs.Blank.{blank-core}
 use borrow.Author.Needs.{needs}
 use Rattle.step_state.proofs.blank_core.Statement.{statement}
@@ -12,20 +12,15 @@ blank-requires c κs = search needs
 empty-requires : tie.Need-empty-requires
 empty-requires c κs = search needs
 
-empty-requires-2 : tie.Need-empty-requires-2
-empty-requires-2 c κs = search needs
-
-empty-requires-3 : tie.Need-empty-requires-3
-empty-requires-3 c κs = search needs
+blank-board-requires : tie.Need-blank-board-requires
+blank-board-requires c κs = search needs
 
 returns : tie.Need-returns
-unfolding packCore fresh packControllers packStreams packClaims
+unfolding packCore fresh packControllers
 returns c =
-    let at-empty2 = c .before in
-    let at-empty = at-empty2 .before in
-    let at-blank = at-empty .before in
-    λ count. simp (at-blank .blank .ensures, at-empty .empty .ensures, at-empty2 .empty2 .ensures, c .empty3 .ensures) (blank-core count)
+    let at-board = c .before .before in
+    let at-empty = at-board .before in
+    λ count. simp (at-empty .before .blank .ensures, at-empty .empty .ensures, at-board .blank-board .ensures) (blank-core count)
 
 pub blank-core-spec : {M : Type 1} → statement M
-blank-core-spec =
-    tie.close (tie.spec blank-requires empty-requires empty-requires-2 empty-requires-3 returns)
+blank-core-spec = tie.close (tie.spec blank-requires empty-requires blank-board-requires returns)

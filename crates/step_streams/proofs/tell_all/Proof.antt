@@ -31,7 +31,7 @@ row l i = getD l i pastStream
 record Telling (count : ℕ) (ids : List ℕ) (rows₀ : List Stream) (left : ℕ) (rows : List Stream) : Type 0 where
   flags : List Bool
   word : left ≡ wordOf flags
-  walk : Walk mostNodes (row rows₀) (tellRow (column openAt count rows₀) ids rows₀) pastStream (column openAt count rows₀) flags rows
+  walk : Walk mostNodes (row rows₀) (tellRow (column openAt count rows₀) (news ids) rows₀) pastStream (column openAt count rows₀) flags rows
 
 abbrev Inv-loop : tie.InvT-loop
 Inv-loop count top master left₀ next₀ left next = (ids : List ℕ) → masterOf ids ≡ master → largest ids ≡ top .0 → Telling count ids next₀ left next
@@ -86,7 +86,7 @@ loop-holds c =
     record {
       flags = flags;
       word = c .open-word .ensures;
-      walk = walk-start mostNodes (row (start .args .streams)) (tellRow flags ids (start .args .streams)) pastStream flags (start .args .streams) (places start) (λ i lt. refl) (λ i e. sym (simp e));
+      walk = walk-start mostNodes (row (start .args .streams)) (tellRow flags (news ids) (start .args .streams)) pastStream flags (start .args .streams) (places start) (λ i lt. refl) (λ i e. sym (simp e));
     }
 
 cast-i : tie.Need-cast-i Inv-loop μ-loop
@@ -134,7 +134,7 @@ loop-again c =
     let i = trailingZeros 32 (turn .before .loop .left) in
     let flags = column openAt (start .args .count) (start .args .streams) in
     let old = row (start .args .streams) in
-    let new = tellRow flags ids (start .args .streams) in
+    let new = tellRow flags (news ids) (start .args .streams) in
     let few : start .args .count ≤ 8 = start .pre in
     let lt : i < mostNodes = omega (arith, place turn) in
     let was = walk-at mostNodes old new pastStream flags (so-far .flags) (turn .before .loop .next) i (so-far .walk) lt (l .isSet) in
@@ -154,7 +154,7 @@ returns c =
     let ids = column idAt (start .args .count) (start .args .ids) in
     let so-far = turn .loop .inv ids (sym (turn .before .before .master-of .ensures)) (sym (turn .before .before .before .largest-id .ensures)) in
     let flags = column openAt (start .args .count) (start .args .streams) in
-    walk-end mostNodes (row (start .args .streams)) (tellRow flags ids (start .args .streams)) pastStream flags (so-far .flags) (turn .loop .next) (so-far .walk) (sym (so-far .word) ∙ c .loop-test .left)
+    walk-end mostNodes (row (start .args .streams)) (tellRow flags (news ids) (start .args .streams)) pastStream flags (so-far .flags) (turn .loop .next) (so-far .walk) (sym (so-far .word) ∙ c .loop-test .left)
 
 pub tell-all-spec : {M : Type 1} → statement M
 tell-all-spec =

@@ -2,6 +2,7 @@
 use mathlib.Core.Path.{_≡_, sym, ap, _∙_}
 use mathlib.Core.Bool.{Bool}
 use borrow.Author.Needs.{needs}
+use Rattle.rules.specs.Election.{news}
 use Rattle.rules.specs.Limits.{mostNodes}
 use Rattle.rules.specs.Rules.{changes, closeRule}
 use Rattle.any_list.specs.Arrays.{column, table}
@@ -35,7 +36,7 @@ returns c =
     let count = start .args .count in
     let left = c .before .before .before .before .before .before .before .cleared-at in
     ap {B = Board} (λ r. record { streams = r; claims = left .result .claims }) (c .tell-all .ensures)
-    ∙ ap {B = Board} (λ (x : Board). record { streams = table mostNodes (tellRow (column openAt count (x .streams)) (column idAt count (x .claims .ids)) (x .streams)); claims = x .claims }) (left .ensures)
+    ∙ ap {B = Board} (λ (x : Board). record { streams = table mostNodes (tellRow (column openAt count (x .streams)) (news (column idAt count (x .claims .ids))) (x .streams)); claims = x .claims }) (left .ensures)
     ∙ closed-told (start .pre .at) (shifts-so (c .before .before .before) _ (c .before .before .if1 .taken)) (close-roomy (start .pre .at) (start .pre .goes))
 
 returns-2 : tie.Need-returns-2

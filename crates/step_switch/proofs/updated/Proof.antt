@@ -90,7 +90,7 @@ returns c =
     let start = start-of claim in
     let count = start .args .count in
     ap {B = Board} (λ (l : List Stream). record { streams = l; claims = claim .with-claim .result }) (c .tell-all .ensures)
-    ∙ ap₂ {C = Board} (λ (k : Claims) (r : Stream). let next = set (start .args .t3) (start .args .node - 1) r in record { streams = table mostNodes (tellRow (column openAt count next) (column idAt count (k .ids)) next); claims = k }) (claimed claim) (c .before .before .before .without-head .ensures)
+    ∙ ap₂ {C = Board} (λ (k : Claims) (r : Stream). let next = set (start .args .t3) (start .args .node - 1) r in record { streams = table mostNodes (tellRow (column openAt count next) (news (column idAt count (k .ids))) next); claims = k }) (claimed claim) (c .before .before .before .without-head .ensures)
     ∙ updated-all (start .pre .head) (shifts-so (c .before .before) _ (c .before .if1 .taken)) (start .pre .roomy)
 
 tell-one-requires : tie.Need-tell-one-requires

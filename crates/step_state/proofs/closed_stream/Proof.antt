@@ -1,7 +1,7 @@
 -- `closed_stream` meets its contract. Assumes nothing.
 use borrow.Author.Needs.{needs}
-use Rattle.step_switch.proofs.closed_stream.Statement.{statement}
-use Rattle.step_switch.proofs.closed_stream.Tie as tie
+use Rattle.step_state.proofs.closed_stream.Statement.{statement}
+use Rattle.step_state.proofs.closed_stream.Tie as tie
 
 empty-requires : tie.Need-empty-requires
 empty-requires c κs = search needs
