@@ -93,6 +93,10 @@ build_compare() {
     rust_program compare compare
 }
 
+build_kept() {
+    rust_program kept kept
+}
+
 build_bench() {
     c_object -O2 -c host/bench/stack.c -o "$out/stack.o" &&
         rust_program bench bench -C "link-arg=$out/stack.o"

@@ -1,9 +1,10 @@
 #!/bin/sh
 # Shows that the comparisons find wrong libraries: each line of a table puts one
-# mistake into a copy of a reference, which then stands in for the library.
+# mistake into a copy of a reference, or of a program over it, which then stands in
+# for the library.
 # Prints a line a mistake and 'N found, M missed'. Takes some minutes.
-# Usage: host/mutants.sh [lists] [messages] [frames] [verdicts] [logs] [writing], by default
-# all.
+# Usage: host/mutants.sh [lists] [messages] [frames] [verdicts] [logs] [writing] [kept], by
+# default all.
 set -u
 cd "$(dirname "$0")/.." || exit 1
 . host/build.sh
@@ -71,6 +72,12 @@ run_mutant_writer() {
         "$out/list-programs" "$mutant/write_list" "$mutant/read_list"
 }
 
+# The program `tour` with the mistake in it or in the reference below it.
+build_mutant_tour() {
+    stand_in_crate "$mutant" --cap-lints allow --crate-type bin "$mutant/host/standin/tour.rs" &&
+        build_kept
+}
+
 try_part() {
     case $1 in
     lists)
@@ -96,6 +103,9 @@ try_part() {
         try_mistakes host/writing/mutants.txt host/writing/writer build_mutant_writer \
             run_mutant_writer
         ;;
+    kept)
+        try_mistakes host/kept/mutants.txt host build_mutant_tour "$out/kept" "$mutant/tour"
+        ;;
     *)
         echo "no such part: $1"
         exit 1
@@ -105,7 +115,7 @@ try_part() {
 
 mkdir -p "$out"
 build_reference && build_reading && build_judge && build_writer || exit 1
-for part in ${*:-lists messages frames verdicts logs writing}; do
+for part in ${*:-lists messages frames verdicts logs writing kept}; do
     try_part "$part"
 done
 echo "$found found, $missed missed"

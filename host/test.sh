@@ -67,7 +67,7 @@ build_library() {
         stand_in host "$programs" && stand_in_program arbitration "$programs" &&
             stand_in_program captured "$programs" && stand_in_program compare "$programs" &&
             stand_in_program merges "$programs" && stand_in_program write_list "$programs" &&
-            stand_in_program read_list "$programs" &&
+            stand_in_program read_list "$programs" && stand_in_program tour "$programs" &&
             use_library "$programs/libhoefspanker.a"
     else
         use_library "$library"
@@ -108,7 +108,7 @@ prepare() {
     need tshark tshark
     need_grpc
     build_reference && build_reading && build_judge && build_writer && build_programs &&
-        build_captures && build_list_programs && touch "$out/prepared"
+        build_captures && build_list_programs && build_kept && touch "$out/prepared"
 }
 
 the_references() {
@@ -147,6 +147,7 @@ the_example() {
     test_that "comparison with the writer" "$out/compare-writing"
     test_that "programs for texts of lists" "$out/list-programs" "$programs/write_list" \
         "$programs/read_list"
+    test_that "master and largest id that the state keeps" "$out/kept" "$programs/tour"
 }
 
 the_measurement() {

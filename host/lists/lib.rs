@@ -3,7 +3,7 @@
 mod scripts;
 mod walk;
 
-pub use scripts::{fill_history, last_term, take_over, write_unread};
+pub use scripts::{claim, fill_history, last_term, take_over, write_unread};
 pub use walk::{Habits, Walk};
 
 use random::Random;

@@ -14,6 +14,11 @@ pub fn take_over(walk: &mut Walk, node: u8) {
     if master != NO_NODE && master != node {
         let _ = walk.take(LEAVE, master);
     }
+    claim(walk, node);
+}
+
+/// The node learns all that there is and asks the switch for the id that this gives it.
+pub fn claim(walk: &mut Walk, node: u8) {
     walk.exhaust(LEARN, node);
     walk.take_all(node, &[CONNECT, SEND_UPDATE, HANDLE_UPDATE, RECEIVE_UPDATE]);
 }

@@ -2,21 +2,12 @@
 use mathlib.Core.Path.{_≡_, refl, sym}
 use mathlib.Core.Bool.{Bool, true, false, cond, _||_}
 use mathlib.Core.List.{List, [], _∷_}
-use Prim.Native.Nat.{ℕ, suc, _≤_}
+use Prim.Native.Nat.{ℕ, suc}
 use native.Mathlib.Omega.{arith}
 use lib.Dec.{eqb, ltb, leb·suc-suc}
 use lib.ListN.{length}
 use borrow.Author.Tests.{lt-ltb}
 use Rattle.rules.specs.Queues.{before, has}
-
-pub before-le : (n : ℕ) (l : List ℕ) → before n l ≤ length l
-unfolding before
-before-le n [] = omega arith
-before-le n (x ∷ l) = go (eqb n x) (before-le n l)
-  where
-    go : (b : Bool) → before n l ≤ length l → cond b 0 (suc (before n l)) ≤ suc (length l)
-    go true h = omega arith
-    go false h = omega arith
 
 -- a list has what the search for it does not pass all of
 pub has-before : (n : ℕ) (l : List ℕ) → has n l ≡ ltb (before n l) (length l)

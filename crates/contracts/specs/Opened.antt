@@ -2,7 +2,7 @@
 use Prim.Native.Nat.{ℕ}
 use Rattle.rules_laws.specs.Computed.{computed}
 use Rattle.rules_exchange.specs.Independent.{listed, exists, independent}
-use Rattle.step_state.specs.Hold.{holdDesk, holdBoard, holdCore, holdHistory, hold, packControllers, packStreams, packClaims, packCore, packHistory, represent}
+use Rattle.step_state.specs.Hold.{holdDesk, holdHeld, holdBoard, holdCore, holdHistory, hold, packControllers, packStreams, packClaims, packCore, packHistory, represent}
 use Rattle.step_state.specs.Tidy.{noMessage, noStatus, blankMastership, blankRequest, blankResponse, tidyMastership, tidyRequest, tidyResponse, tidyPlaces, tidyController, tidyStream, blankController, blankStream, tidyCore, blankWrite, tidyHistory, stateFits}
 use Rattle.run_lists.specs.EventList.{numberAt, refusal, historyBytes}
 use Rattle.run.specs.Ran.{runRefusal, ran}
@@ -31,7 +31,7 @@ use Rattle.wire_bytes.specs.Bytes.{little, reported}
 use Rattle.wire_text.specs.Printout.{roleLines, electionLines, statusLines, fieldLines, printout}
 
 unfoldable pub states : ℕ
-unfolding computed holdDesk holdBoard holdCore holdHistory hold packControllers packStreams packClaims packCore packHistory represent noMessage noStatus blankMastership blankRequest blankResponse tidyMastership tidyRequest tidyResponse tidyPlaces tidyController tidyStream blankController blankStream tidyCore blankWrite tidyHistory stateFits
+unfolding computed holdDesk holdHeld holdBoard holdCore holdHistory hold packControllers packStreams packClaims packCore packHistory represent noMessage noStatus blankMastership blankRequest blankResponse tidyMastership tidyRequest tidyResponse tidyPlaces tidyController tidyStream blankController blankStream tidyCore blankWrite tidyHistory stateFits
 states = 0
 
 unfoldable pub runs : ℕ

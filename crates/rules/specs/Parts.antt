@@ -4,7 +4,8 @@ use mathlib.Core.List.{List, [], _++_}
 use Prim.Native.Nat.{ℕ, _-_}
 use lib.ListN.{length, getD, set}
 use Rattle.rules.specs.Part.{Part}
-use Rattle.rules.specs.State.{Mastership, Request, Response, Write, Desk, Board, Core, State, blank}
+use Rattle.rules.specs.State.{Mastership, Request, Response, Write, Desk, Held, Board, Core, State, blank}
+use Rattle.rules.specs.Election.{holding}
 
 abbrev pub withCore : Core → State → State
 withCore c s = record { count = s .count; running = s .running; history = s .history; core = c }
@@ -63,7 +64,7 @@ sendPart n = record {
     sent = set (b .sent) (n - 1) (v .sent);
     requests = set (b .requests) (n - 1) (v .requests);
     responses = b .responses;
-    ids = b .ids;
+    held = b .held;
     terms = b .terms;
     last = b .last;
   }) (s .core)) s;
@@ -101,7 +102,7 @@ receivePart n = record {
       sent = b .sent;
       requests = b .requests;
       responses = set (b .responses) (n - 1) (v .responses);
-      ids = b .ids;
+      held = b .held;
       terms = b .terms;
       last = b .last;
     };
@@ -142,14 +143,14 @@ linkPart n = record {
       sent = b .sent;
       requests = b .requests;
       responses = b .responses;
-      ids = b .ids;
+      held = b .held;
       terms = b .terms;
       last = b .last;
     };
   };
 }
 
--- 9, 10: reads who is open, all responses and all ids, and of node n the rest of its stream and its switch term;
+-- 9, 10: reads who is open, all responses and all ids with what they give, and of node n the rest of its stream and its switch term;
 -- writes all responses, and of node n everything.
 pub record Told : Type 0 where
   pub running : Bool
@@ -157,7 +158,7 @@ pub record Told : Type 0 where
   pub sent : ℕ
   pub requests : List Request
   pub responses : List (List Response)
-  pub ids : List ℕ
+  pub held : Held
   pub term : ℕ
 
 pub record Telling : Type 0 where
@@ -176,7 +177,7 @@ tellPart n = record {
     sent = getD (b .sent) (n - 1) 0;
     requests = getD (b .requests) (n - 1) [];
     responses = b .responses;
-    ids = b .ids;
+    held = b .held;
     term = getD (b .terms) (n - 1) 0;
   };
   put = λ v d. let b = d .board in record {
@@ -187,21 +188,22 @@ tellPart n = record {
       sent = set (b .sent) (n - 1) (v .sent);
       requests = set (b .requests) (n - 1) (v .requests);
       responses = v .responses;
-      ids = set (b .ids) (n - 1) (v .id);
+      held = holding n (v .id) (b .held);
       terms = set (b .terms) (n - 1) (v .term);
       last = b .last;
     };
   };
 }
 
--- 11: reads stream n's queues, n's switch term, all ids, the last accepted term and how many writes the history holds;
+-- 11: reads stream n's queues, n's id and term on the switch, its master, the last accepted term and how many writes the history holds;
 -- writes the queues and the last accepted term, and appends to the history.
 pub record Served : Type 0 where
   pub running : Bool
   pub isOpen : Bool
   pub requests : List Request
   pub responses : List Response
-  pub ids : List ℕ
+  pub id : ℕ
+  pub master : ℕ
   pub term : ℕ
   pub last : ℕ
   pub writes : ℕ
@@ -219,7 +221,8 @@ servePart n = record {
     isOpen = getD (b .opens) (n - 1) false;
     requests = getD (b .requests) (n - 1) [];
     responses = getD (b .responses) (n - 1) [];
-    ids = b .ids;
+    id = getD (b .held .ids) (n - 1) 0;
+    master = b .held .master;
     term = getD (b .terms) (n - 1) 0;
     last = b .last;
     writes = length (d .history);
@@ -232,7 +235,7 @@ servePart n = record {
       sent = b .sent;
       requests = set (b .requests) (n - 1) (v .requests);
       responses = set (b .responses) (n - 1) (v .responses);
-      ids = b .ids;
+      held = b .held;
       terms = b .terms;
       last = v .last;
     };

@@ -5,8 +5,9 @@ use Prim.Native.Nat.{ℕ, zero, suc}
 use lib.ListN.{length, getD}
 use lib.Dec.{leb, eqb}
 use Rattle.rules.specs.Limits.{mostNodes, topTerm, topId, queueLength, historyLength}
-use Rattle.rules.specs.State.{Mastership, Message, update, write, Status, ok, alreadyExists, notFound, permissionDenied, Request, Response, Write, Desk, Board, Core, State}
+use Rattle.rules.specs.State.{Mastership, Message, update, write, Status, ok, alreadyExists, notFound, permissionDenied, Request, Response, Write, Desk, Held, Board, Core, State}
 use Rattle.rules.specs.Queues.{has, empty}
+use Rattle.rules.specs.Election.{largest, masterOf}
 
 -- ---- of any list
 
@@ -83,14 +84,18 @@ streamFits isOpen sent requests responses id term =
 
 abbrev pub streamFitsAt : Board → ℕ → Bool
 streamFitsAt b i =
-    streamFits (getD (b .opens) i false) (getD (b .sent) i 0) (getD (b .requests) i []) (getD (b .responses) i []) (getD (b .ids) i 0) (getD (b .terms) i 0)
+    streamFits (getD (b .opens) i false) (getD (b .sent) i 0) (getD (b .requests) i []) (getD (b .responses) i []) (getD (b .held .ids) i 0) (getD (b .terms) i 0)
+
+-- The ids are distinct, and what is kept with them is what they give.
+unfoldable pub heldFits : Held → Bool
+heldFits h = distinctIds (h .ids) && eqb (h .master) (masterOf (h .ids)) && eqb (h .largest) (largest (h .ids))
 
 unfoldable pub boardFits : ℕ → Bool → Board → Bool
 boardFits count running b =
     eqb (length (b .opens)) count && eqb (length (b .sent)) count && eqb (length (b .requests)) count && eqb (length (b .responses)) count
-    && eqb (length (b .ids)) count && eqb (length (b .terms)) count
+    && eqb (length (b .held .ids)) count && eqb (length (b .terms)) count
     && each count (streamFitsAt b)
-    && distinctIds (b .ids)
+    && heldFits (b .held)
     && (running || all not (b .opens))
     && leb (b .last) topTerm
 

@@ -5,12 +5,12 @@ use Prim.Native.Nat.{ℕ, _+_, _-_}
 use lib.ListN.{getD, set}
 use lib.Dec.{leb, ltb, eqb}
 use Rattle.rules.specs.Limits.{topTerm, historyLength}
-use Rattle.rules.specs.State.{Mastership, Message, update, write, Status, ok, alreadyExists, notFound, permissionDenied, Request, Response, Desk, Board, blank}
+use Rattle.rules.specs.State.{Mastership, Message, update, write, Status, ok, alreadyExists, notFound, permissionDenied, Request, Response, Desk, Held, Board, blank}
 use Rattle.rules.specs.Queues.{push, first, rest, empty, room, roomAll, remove}
 use Rattle.rules.specs.Ids.{electionId, termOf, named, idFor}
 use Rattle.rules.specs.Part.{Rule, always}
 use Rattle.rules.specs.Parts.{Inbox, Sender, Sent, Receiver, Received, Linked, Told, Telling, Served, Serving, Power, Class, service, learn, send, receive, link, tell, serve, power, Reads, Writes}
-use Rattle.rules.specs.Election.{masterOf, taken, news, tellAll, roomOpen}
+use Rattle.rules.specs.Election.{elected, holding, taken, news, tellAll, roomOpen}
 
 -- ---- the service: 1, 2
 
@@ -163,8 +163,8 @@ connectRule = record {
 }
 
 -- Closing n's stream: the columns without it, and whether the switch's master changes.
-unfoldable pub idsLeft : ℕ → Told → List ℕ
-idsLeft n v = set (v .ids) (n - 1) 0
+unfoldable pub heldLeft : ℕ → Told → Held
+heldLeft n v = holding n 0 (v .held)
 
 unfoldable pub opensLeft : ℕ → Told → List Bool
 opensLeft n v = set (v .opens) (n - 1) false
@@ -172,18 +172,18 @@ opensLeft n v = set (v .opens) (n - 1) false
 unfoldable pub responsesLeft : ℕ → Told → List (List Response)
 responsesLeft n v = set (v .responses) (n - 1) []
 
-unfoldable pub changes : List ℕ → List ℕ → Bool
-changes ids ids′ = not (eqb (masterOf ids) (masterOf ids′))
+unfoldable pub changes : Held → Held → Bool
+changes h h′ = not (eqb (h .master) (h′ .master))
 
 unfoldable pub closeRoom : ℕ → Told → Bool
-closeRoom n v = not (changes (v .ids) (idsLeft n v)) || roomOpen (opensLeft n v) (responsesLeft n v)
+closeRoom n v = not (changes (v .held) (heldLeft n v)) || roomOpen (opensLeft n v) (responsesLeft n v)
 
 unfoldable pub closed : ℕ → Told → Telling
 closed n v = record {
   isOpen = false;
   sent = 0;
   requests = [];
-  responses = cond (changes (v .ids) (idsLeft n v)) (tellAll (news (idsLeft n v)) (opensLeft n v) (responsesLeft n v)) (responsesLeft n v);
+  responses = cond (changes (v .held) (heldLeft n v)) (tellAll (news (heldLeft n v)) (opensLeft n v) (responsesLeft n v)) (responsesLeft n v);
   id = 0;
   term = 0;
 }
@@ -198,16 +198,16 @@ closeRule n = record {
   effect = closed n;
 }
 
--- The update at the head of n's requests, and the ids with it taken.
+-- The update at the head of n's requests, and what is held with its id taken.
 abbrev pub asked : Told → Request
 asked v = first noRequest (v .requests)
 
-unfoldable pub idsWith : ℕ → Told → List ℕ
-idsWith n v = set (v .ids) (n - 1) (asked v .id)
+unfoldable pub heldWith : ℕ → Told → Held
+heldWith n v = holding n (asked v .id) (v .held)
 
 -- Where the master stays, only n is told.
 unfoldable pub updateRoom : ℕ → Told → Bool
-updateRoom n v = cond (changes (v .ids) (idsWith n v)) (roomOpen (v .opens) (v .responses)) (room (getD (v .responses) (n - 1) []))
+updateRoom n v = cond (changes (v .held) (heldWith n v)) (roomOpen (v .opens) (v .responses)) (room (getD (v .responses) (n - 1) []))
 
 unfoldable pub updated : ℕ → Told → Telling
 updated n v = record {
@@ -215,9 +215,9 @@ updated n v = record {
   sent = v .sent;
   requests = rest (v .requests);
   responses =
-      cond (changes (v .ids) (idsWith n v))
-      (tellAll (news (idsWith n v)) (v .opens) (v .responses))
-      (set (v .responses) (n - 1) (push (news (idsWith n v) n) (getD (v .responses) (n - 1) [])));
+      cond (changes (v .held) (heldWith n v))
+      (tellAll (news (heldWith n v)) (v .opens) (v .responses))
+      (set (v .responses) (n - 1) (push (news (heldWith n v) n) (getD (v .responses) (n - 1) [])));
   id = asked v .id;
   term = asked v .term;
 }
@@ -228,15 +228,15 @@ handleUpdateRule n = record {
   allowed = λ v. v .running && getD (v .opens) (n - 1) false && not (empty (v .requests)) && isUpdate (asked v .message);
   termLeft = always;
   historyLeft = always;
-  queuesLeft = λ v. cond (taken n (asked v .id) (v .ids)) (closeRoom n v) (updateRoom n v);
-  effect = λ v. cond (taken n (asked v .id) (v .ids)) (closed n v) (updated n v);
+  queuesLeft = λ v. cond (taken n (asked v .id) (v .held .ids)) (closeRoom n v) (updateRoom n v);
+  effect = λ v. cond (taken n (asked v .id) (v .held .ids)) (closed n v) (updated n v);
 }
 
 -- The switch accepts the write at the head of n's requests.
 unfoldable pub accepts : ℕ → Served → Bool
 accepts n v =
-    eqb (getD (v .ids) (n - 1) 0) (first noRequest (v .requests) .id)
-    && eqb (masterOf (v .ids)) n && leb (v .last) (v .term)
+    eqb (v .id) (first noRequest (v .requests) .id)
+    && eqb (v .master) n && leb (v .last) (v .term)
 
 abbrev pub writeAnswer : Status → Response
 writeAnswer s = record { message = write; status = s; id = 0 }
@@ -263,7 +263,7 @@ cleared b = record {
   sent = map (λ t. 0) (b .sent);
   requests = map (λ q. []) (b .requests);
   responses = map (λ q. []) (b .responses);
-  ids = map (λ i. 0) (b .ids);
+  held = elected (map (λ i. 0) (b .held .ids));
   terms = map (λ t. 0) (b .terms);
   last = b .last;
 }

@@ -37,14 +37,20 @@ pub record Desk : Type 0 where
   pub service : Mastership
   pub events : List (List Mastership)
 
+-- The ids that the switch holds, and what they give: its master, 0 for none, and the largest id.
+pub record Held : Type 0 where
+  pub ids : List ℕ
+  pub master : ℕ
+  pub largest : ℕ
+
 -- The switch's board. Of each stream: whether it is open, the term last sent on it, its requests and its responses.
--- Of each node, as the switch holds it: the election id and the term. And the last accepted term.
+-- Of each node, as the switch holds it: the election id, with what the ids give, and the term. And the last accepted term.
 pub record Board : Type 0 where
   pub opens : List Bool
   pub sent : List ℕ
   pub requests : List (List Request)
   pub responses : List (List Response)
-  pub ids : List ℕ
+  pub held : Held
   pub terms : List ℕ
   pub last : ℕ
 

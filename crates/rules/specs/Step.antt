@@ -8,6 +8,7 @@ use lib.Dec.{eqb}
 use Rattle.rules.specs.Codes.{outOfRange, unknownKind, wrongNode}
 use Rattle.rules.specs.State.{State, blank}
 use Rattle.rules.specs.Range.{within, inRange}
+use Rattle.rules.specs.Election.{elected}
 use Rattle.rules.specs.Part.{Result, via, decide}
 use Rattle.rules.specs.Parts.{Class, service, learn, send, receive, link, tell, serve, power, part}
 use Rattle.rules.specs.Rules.{Kind, classOf, rule, join, leave, learns, sendUpdate, receiveUpdate, sendWrite, receiveWrite, connect, close, handleUpdate, handleWrite, shutdown, startup}
@@ -90,7 +91,7 @@ fresh count = record {
       sent = replicate count 0;
       requests = replicate count [];
       responses = replicate count [];
-      ids = replicate count 0;
+      held = elected (replicate count 0);
       terms = replicate count 0;
       last = 0;
     };

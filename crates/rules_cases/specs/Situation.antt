@@ -31,6 +31,13 @@ service m = record { A = Mastership; equality = mastership; look = λ s. s .core
 abbrev pub last : ℕ → Claim
 last t = record { A = ℕ; equality = number; look = λ s. s .core .board .last; stands = t }
 
+-- The switch's master and the largest id, as they are kept.
+abbrev pub master : ℕ → Claim
+master n = record { A = ℕ; equality = number; look = λ s. s .core .board .held .master; stands = n }
+
+abbrev pub largest : ℕ → Claim
+largest i = record { A = ℕ; equality = number; look = λ s. s .core .board .held .largest; stands = i }
+
 -- Of node n.
 module _ (n : ℕ) where
   abbrev pub events : List Mastership → Claim
@@ -52,7 +59,7 @@ module _ (n : ℕ) where
   responses q = record { A = List Response; equality = list response; look = λ s. getD (s .core .board .responses) (n - 1) []; stands = q }
 
   abbrev pub id : ℕ → Claim
-  id i = record { A = ℕ; equality = number; look = λ s. getD (s .core .board .ids) (n - 1) 0; stands = i }
+  id i = record { A = ℕ; equality = number; look = λ s. getD (s .core .board .held .ids) (n - 1) 0; stands = i }
 
 -- ---- situations
 

@@ -1,4 +1,4 @@
--- Situations of telling: what each stream hears when a stream closes or an update is handled, and what a shutdown keeps. Assumes nothing.
+-- Situations of telling: what each stream hears when a stream closes or an update is handled, and what is kept. Assumes nothing.
 use mathlib.Core.Bool.{true, false}
 use mathlib.Core.List.{List, [], _∷_, _++_}
 use Prim.Native.Nat.{ℕ}
@@ -7,7 +7,7 @@ use Rattle.rules.specs.State.{Response, State}
 use Rattle.rules.specs.Parts.{onDevice, linkPart, tellPart, servePart}
 use Rattle.rules.specs.Step.{Event, fresh}
 use Rattle.rules_cases.specs.Names.{Join, Learn, SendUpdate, ReceiveUpdate, SendWrite, Connect, Close, HandleUpdate, Shutdown, Startup, asksUpdate, isMaster, isNot, isNone, by}
-use Rattle.rules_cases.specs.Situation.{Claim, history, last, says, isOpen, requests, responses, id, Situation}
+use Rattle.rules_cases.specs.Situation.{Claim, history, last, master, largest, says, isOpen, requests, responses, id, Situation}
 
 -- Three open streams: the ids of nodes 1 and 3, the id that node 3 asks for, and the responses of nodes 2 and 3.
 abbrev streams : ℕ → ℕ → ℕ → List Response → List Response → State
@@ -65,25 +65,30 @@ restarted = record {
       (onDevice (tellPart 1) .put (record { isOpen = true; sent = 4; requests = []; responses = [] ∷ [] ∷ []; id = 6; term = 4 }) (fresh 2));
   steps = Shutdown 0 ∷ Connect 1 ∷ Startup 0 ∷ [];
   answers = 0 ∷ 4 ∷ 0 ∷ [];
-  ends = last 4 ∷ history (by 1 4 ∷ []) ∷ isOpen 1 false ∷ id 1 0 ∷ [];
+  ends = last 4 ∷ history (by 1 4 ∷ []) ∷ isOpen 1 false ∷ id 1 0 ∷ master 0 ∷ largest 0 ∷ [];
 }
+
+-- What the switch then keeps.
+abbrev keeps : ℕ → ℕ → List Claim
+keeps m i = master m ∷ largest i ∷ []
 
 abbrev pub whoIsTold : List Situation
 whoIsTold =
     -- 10: where the master stays, only node 3 is told, with the largest id
-    tells (HandleUpdate 3) 5 0 3 [] [] (isNot 5 ∷ []) (id 3 3 ∷ [])
-    ∷ tells (HandleUpdate 3) 3 5 4 [] [] (isMaster 4 ∷ []) (id 3 4 ∷ [])
-    ∷ tells (HandleUpdate 3) 3 5 5 [] [] (isMaster 5 ∷ []) (id 3 5 ∷ [])
+    tells (HandleUpdate 3) 5 0 3 [] [] (isNot 5 ∷ []) (id 3 3 ∷ keeps 1 5)
+    ∷ tells (HandleUpdate 3) 3 5 4 [] [] (isMaster 4 ∷ []) (id 3 4 ∷ keeps 3 4)
+    ∷ tells (HandleUpdate 3) 3 5 5 [] [] (isMaster 5 ∷ []) (id 3 5 ∷ keeps 3 5)
     -- 10: where the master changes, all are told
-    ∷ tells (HandleUpdate 3) 5 0 7 (isNot 7 ∷ []) (isNot 7 ∷ []) (isMaster 7 ∷ []) (id 3 7 ∷ [])
+    ∷ tells (HandleUpdate 3) 5 0 7 (isNot 7 ∷ []) (isNot 7 ∷ []) (isMaster 7 ∷ []) (id 3 7 ∷ keeps 3 7)
+    ∷ tells (HandleUpdate 3) 4 5 3 (isMaster 4 ∷ []) (isNot 4 ∷ []) (isNot 4 ∷ []) (id 3 3 ∷ keeps 1 4)
     -- 10: an id that another holds closes the stream, and its id leaves the election
-    ∷ tells (HandleUpdate 3) 3 5 3 (isMaster 3 ∷ []) (isNot 3 ∷ []) [] gone
+    ∷ tells (HandleUpdate 3) 3 5 3 (isMaster 3 ∷ []) (isNot 3 ∷ []) [] (gone ++ keeps 1 3)
     -- 9: the others are told where the master changes, with the largest id left; nobody is master where no id is left
-    ∷ tells (Close 3) 3 5 4 (isMaster 3 ∷ []) (isNot 3 ∷ []) [] gone
-    ∷ tells (Close 3) 0 5 4 (isNone 0 ∷ []) (isNone 0 ∷ []) [] gone
+    ∷ tells (Close 3) 3 5 4 (isMaster 3 ∷ []) (isNot 3 ∷ []) [] (gone ++ keeps 1 3)
+    ∷ tells (Close 3) 0 5 4 (isNone 0 ∷ []) (isNone 0 ∷ []) [] (gone ++ keeps 0 0)
     ∷ lastIdLeaves
     ∷ hearsOfNobody
-    ∷ tells (Close 3) 5 3 4 [] [] [] gone
+    ∷ tells (Close 3) 5 3 4 [] [] [] (gone ++ keeps 1 5)
     -- 7: one full stream that would be told stops the step
     ∷ otherFull (Close 3) 3 5 4 7
     ∷ otherFull (Close 3) 5 3 4 0

@@ -7,10 +7,10 @@ use native.Mathlib.Decide.{ℕ-discrete}
 use lib.ListN.{length, getD, set, length-set}
 use lib.Seq.{getD-set-same, getD-set-other, set-getD}
 use Rattle.rules.specs.Limits.{topTerm, topId}
-use Rattle.rules.specs.State.{Request, Response, Board}
+use Rattle.rules.specs.State.{Request, Response, Held, Board}
 use Rattle.rules.specs.Parts.{Telling}
 use Rattle.rules_laws.specs.All.{All}
-use Rattle.rules_laws.specs.InRange.{DistinctIds, QueueFits, RequestFits, ResponseFits, Shut, StreamAt, BoardFits}
+use Rattle.rules_laws.specs.InRange.{QueueFits, RequestFits, ResponseFits, Shut, StreamAt, HeldFits, BoardFits}
 use Rattle.rules_laws.specs.Lists.{at-set}
 
 -- All response queues, by who is open.
@@ -28,27 +28,28 @@ own-queue {opens = opens} {qs = qs} j {q} o k h = record {
   closed = λ i e. getD-set-other qs j i q [] (λ z. true≢false (sym o ∙ ap (λ (l : ℕ). getD opens l false) (sym z) ∙ e)) ∙ h .closed i e;
 }
 
--- The board with stream n as x says.
-abbrev pub rewritten : ℕ → Telling → ℕ → Board → Board
-rewritten n x last w = record {
+-- The board with stream n as x says, where g is then held.
+abbrev pub rewritten : ℕ → Telling → Held → ℕ → Board → Board
+rewritten n x g last w = record {
   opens = set (w .opens) (n - 1) (x .isOpen);
   sent = set (w .sent) (n - 1) (x .sent);
   requests = set (w .requests) (n - 1) (x .requests);
   responses = x .responses;
-  ids = set (w .ids) (n - 1) (x .id);
+  held = g;
   terms = set (w .terms) (n - 1) (x .term);
   last = last;
 }
 
--- What x has to be.
-pub record Anew (count : ℕ) (running : Bool) (w : Board) (n : ℕ) (x : Telling) : Type 0 where
+-- What x and g have to be.
+pub record Anew (count : ℕ) (running : Bool) (w : Board) (n : ℕ) (x : Telling) (g : Held) : Type 0 where
   pub responses : ResponsesFit count (set (w .opens) (n - 1) (x .isOpen)) (x .responses)
   pub sent : x .sent ≤ topTerm
   pub requests : QueueFits RequestFits (x .requests)
   pub id : x .id ≤ topId
   pub term : x .term ≤ topTerm
   pub shut : x .isOpen ≡ false → Shut (x .sent) (x .requests) [] (x .id) (x .term)
-  pub distinct : DistinctIds (set (w .ids) (n - 1) (x .id))
+  pub ids : g .ids ≡ set (w .held .ids) (n - 1) (x .id)
+  pub held : HeldFits g
   pub stopped : running ≡ false → All (λ o. o ≡ false) (set (w .opens) (n - 1) (x .isOpen))
 
 module _ {count : ℕ} {running : Bool} {w : Board} (h : BoardFits count running w) where
@@ -56,15 +57,16 @@ module _ {count : ℕ} {running : Bool} {w : Board} (h : BoardFits count running
   responses-fit = record { size = h .responses-size; queues = λ i. h .streams i .responses-fit; closed = λ i e. h .streams i .shut e .no-responses }
 
   module _ (n : ℕ) (place : n - 1 < count) where
-    stream-anew : (x : Telling) (last : ℕ) → Anew count running w n x → (i : ℕ) → Dec (i ≡ n - 1) → StreamAt (rewritten n x last w) i
-    stream-anew x last k i (yes e) =
+    stream-anew : (x : Telling) (g : Held) (last : ℕ) → Anew count running w n x g → (i : ℕ) → Dec (i ≡ n - 1) → StreamAt (rewritten n x g last w) i
+    stream-anew x g last k i (yes e) =
         let o : getD (set (w .opens) (n - 1) (x .isOpen)) (n - 1) false ≡ x .isOpen = getD-set-same (w .opens) (n - 1) (x .isOpen) false (rw (h .opens-size) place) in
         rw (
           e,
           o,
+          k .ids,
           getD-set-same (w .sent) (n - 1) (x .sent) 0 (rw (h .sent-size) place),
           getD-set-same (w .requests) (n - 1) (x .requests) [] (rw (h .requests-size) place),
-          getD-set-same (w .ids) (n - 1) (x .id) 0 (rw (h .ids-size) place),
+          getD-set-same (w .held .ids) (n - 1) (x .id) 0 (rw (h .ids-size) place),
           getD-set-same (w .terms) (n - 1) (x .term) 0 (rw (h .terms-size) place),
         )
         (record {
@@ -76,14 +78,15 @@ module _ {count : ℕ} {running : Bool} {w : Board} (h : BoardFits count running
           shut = λ z. let s = k .shut z in
               record { no-sent = s .no-sent; no-requests = s .no-requests; no-responses = k .responses .closed (n - 1) (o ∙ z); no-id = s .no-id; no-term = s .no-term };
         })
-    stream-anew x last k i (no z) =
+    stream-anew x g last k i (no z) =
         let o : getD (set (w .opens) (n - 1) (x .isOpen)) i false ≡ getD (w .opens) i false = getD-set-other (w .opens) (n - 1) i (x .isOpen) false z in
         let y = h .streams i in
         rw (
           o,
+          k .ids,
           getD-set-other (w .sent) (n - 1) i (x .sent) 0 z,
           getD-set-other (w .requests) (n - 1) i (x .requests) [] z,
-          getD-set-other (w .ids) (n - 1) i (x .id) 0 z,
+          getD-set-other (w .held .ids) (n - 1) i (x .id) 0 z,
           getD-set-other (w .terms) (n - 1) i (x .term) 0 z,
         )
         (record {
@@ -96,16 +99,16 @@ module _ {count : ℕ} {running : Bool} {w : Board} (h : BoardFits count running
               record { no-sent = s .no-sent; no-requests = s .no-requests; no-responses = k .responses .closed i (o ∙ e); no-id = s .no-id; no-term = s .no-term };
         })
 
-    pub rewritten-fits : (x : Telling) (last : ℕ) → Anew count running w n x → last ≤ topTerm → BoardFits count running (rewritten n x last w)
-    rewritten-fits x last k u = record {
+    pub rewritten-fits : (x : Telling) (g : Held) (last : ℕ) → Anew count running w n x g → last ≤ topTerm → BoardFits count running (rewritten n x g last w)
+    rewritten-fits x g last k u = record {
       opens-size = length-set (w .opens) (n - 1) (x .isOpen) ∙ h .opens-size;
       sent-size = length-set (w .sent) (n - 1) (x .sent) ∙ h .sent-size;
       requests-size = length-set (w .requests) (n - 1) (x .requests) ∙ h .requests-size;
       responses-size = k .responses .size;
-      ids-size = length-set (w .ids) (n - 1) (x .id) ∙ h .ids-size;
+      ids-size = ap length (k .ids) ∙ length-set (w .held .ids) (n - 1) (x .id) ∙ h .ids-size;
       terms-size = length-set (w .terms) (n - 1) (x .term) ∙ h .terms-size;
-      streams = λ i. stream-anew x last k i (ℕ-discrete i (n - 1));
-      distinct = k .distinct;
+      streams = λ i. stream-anew x g last k i (ℕ-discrete i (n - 1));
+      held = k .held;
       stopped = k .stopped;
       last = u;
     }
@@ -118,7 +121,7 @@ module _ {count : ℕ} {running : Bool} {w : Board} (h : BoardFits count running
           sent = set (w .sent) (n - 1) sent;
           requests = set (w .requests) (n - 1) requests;
           responses = responses;
-          ids = w .ids;
+          held = w .held;
           terms = w .terms;
           last = last;
         })
@@ -127,16 +130,17 @@ module _ {count : ℕ} {running : Bool} {w : Board} (h : BoardFits count running
       sent = sent;
       requests = requests;
       responses = responses;
-      id = getD (w .ids) (n - 1) 0;
+      id = getD (w .held .ids) (n - 1) 0;
       term = getD (w .terms) (n - 1) 0;
-    }) last (record {
+    }) (w .held) last (record {
       responses = rw set-getD c;
       sent = a;
       requests = b;
       id = h .streams (n - 1) .id-high;
       term = h .streams (n - 1) .term-high;
       shut = λ e. absurd (true≢false (sym o ∙ e));
-      distinct = rw set-getD (h .distinct);
+      ids = sym (set-getD (w .held .ids) (n - 1) 0);
+      held = h .held;
       stopped = rw set-getD (h .stopped);
     }) d)
 
@@ -146,7 +150,7 @@ module _ {count : ℕ} {running : Bool} {w : Board} (h : BoardFits count running
       sent = w .sent;
       requests = w .requests;
       responses = w .responses;
-      ids = w .ids;
+      held = w .held;
       terms = w .terms;
       last = w .last;
     })
@@ -155,9 +159,9 @@ module _ {count : ℕ} {running : Bool} {w : Board} (h : BoardFits count running
       sent = getD (w .sent) (n - 1) 0;
       requests = getD (w .requests) (n - 1) [];
       responses = w .responses;
-      id = getD (w .ids) (n - 1) 0;
+      id = getD (w .held .ids) (n - 1) 0;
       term = getD (w .terms) (n - 1) 0;
-    }) (w .last) (record {
+    }) (w .held) (w .last) (record {
       responses = record {
         size = h .responses-size;
         queues = responses-fit .queues;
@@ -168,6 +172,7 @@ module _ {count : ℕ} {running : Bool} {w : Board} (h : BoardFits count running
       id = y .id-high;
       term = y .term-high;
       shut = λ e. absurd (true≢false e);
-      distinct = rw set-getD (h .distinct);
+      ids = sym (set-getD (w .held .ids) (n - 1) 0);
+      held = h .held;
       stopped = λ e. absurd (true≢false (sym r ∙ e));
     }) (h .last))

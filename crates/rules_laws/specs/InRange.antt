@@ -6,7 +6,8 @@ use mathlib.Core.List.{List, [], _∷_}
 use Prim.Native.Nat.{ℕ, _≤_}
 use lib.ListN.{length, getD}
 use Rattle.rules.specs.Limits.{mostNodes, topTerm, topId, queueLength, historyLength}
-use Rattle.rules.specs.State.{Mastership, Message, update, write, Status, ok, alreadyExists, notFound, permissionDenied, Request, Response, Write, Desk, Board, Core, State, blank}
+use Rattle.rules.specs.State.{Mastership, Message, update, write, Status, ok, alreadyExists, notFound, permissionDenied, Request, Response, Write, Desk, Held, Board, Core, State, blank}
+use Rattle.rules.specs.Election.{elected}
 use Rattle.rules_laws.specs.All.{All}
 
 -- ---- of any list
@@ -95,17 +96,22 @@ pub record StreamFits (isOpen : Bool) (sent : ℕ) (requests : List Request) (re
 
 -- The stream at place i of a board; past the end it is a closed one.
 abbrev pub StreamAt : Board → ℕ → Type 0
-StreamAt w i = StreamFits (getD (w .opens) i false) (getD (w .sent) i 0) (getD (w .requests) i []) (getD (w .responses) i []) (getD (w .ids) i 0) (getD (w .terms) i 0)
+StreamAt w i = StreamFits (getD (w .opens) i false) (getD (w .sent) i 0) (getD (w .requests) i []) (getD (w .responses) i []) (getD (w .held .ids) i 0) (getD (w .terms) i 0)
+
+-- The ids are distinct, and what is kept with them is what they give.
+pub record HeldFits (h : Held) : Type 0 where
+  pub distinct : DistinctIds (h .ids)
+  pub made : h ≡ elected (h .ids)
 
 pub record BoardFits (count : ℕ) (running : Bool) (w : Board) : Type 0 where
   pub opens-size : length (w .opens) ≡ count
   pub sent-size : length (w .sent) ≡ count
   pub requests-size : length (w .requests) ≡ count
   pub responses-size : length (w .responses) ≡ count
-  pub ids-size : length (w .ids) ≡ count
+  pub ids-size : length (w .held .ids) ≡ count
   pub terms-size : length (w .terms) ≡ count
   pub streams : (i : ℕ) → StreamAt w i
-  pub distinct : DistinctIds (w .ids)
+  pub held : HeldFits (w .held)
   pub stopped : running ≡ false → All (λ o. o ≡ false) (w .opens)
   pub last : w .last ≤ topTerm
 

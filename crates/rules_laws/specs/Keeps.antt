@@ -10,6 +10,7 @@ use lib.Dec.{T}
 use Rattle.rules.specs.Limits.{historyLength}
 use Rattle.rules.specs.State.{Write, Desk, Board, Core, State, blank}
 use Rattle.rules.specs.Range.{within}
+use Rattle.rules.specs.Election.{holding}
 use Rattle.rules.specs.Parts.{withCore, withBoard, Inbox, Sent, Received, Telling, Serving, Power, servicePart, learnPart, sendPart, receivePart, onDevice, tellPart, servePart, powerPart, part}
 use Rattle.rules.specs.Rules.{connectRule, shutdownRule, startupRule, Kind, classOf, rule, join, leave, learns, sendUpdate, receiveUpdate, sendWrite, receiveWrite, connect, close, handleUpdate, handleWrite, shutdown, startup}
 use Rattle.rules.specs.Step.{called, act}
@@ -90,8 +91,8 @@ module _ {s : State} (r : InRange s) where
           (own-queue (n - 1) (k .opened) (k .responses) (responses-fit w)) (w .last));
     })
 
-    tell-put : (v : Telling) → Anew (s .count) (s .running) (s .core .board) n v → InRange (onDevice (tellPart n) .put v s)
-    tell-put v k = let w = r .core .board in board-put _ (rewritten-fits w n place v (s .core .board .last) k (w .last))
+    tell-put : (v : Telling) → Anew (s .count) (s .running) (s .core .board) n v (holding n (v .id) (s .core .board .held)) → InRange (onDevice (tellPart n) .put v s)
+    tell-put v k = let w = r .core .board in board-put _ (rewritten-fits w n place v _ (s .core .board .last) k (w .last))
 
     serve-put : (v : Serving) → ServingFits (s .count) (length (s .history)) opened v → InRange (onDevice (servePart n) .put v s)
     serve-put v k = let w = r .core .board in device-put (s .running) (s .history ++ v .accepted) _

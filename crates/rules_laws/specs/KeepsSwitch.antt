@@ -9,6 +9,7 @@ use lib.Dec.{T, ltb}
 use Rattle.rules.specs.Limits.{topTerm, historyLength}
 use Rattle.rules.specs.State.{Request, Response, Status, ok, permissionDenied, Board}
 use Rattle.rules.specs.Queues.{push, first, rest, empty}
+use Rattle.rules.specs.Election.{elected}
 use Rattle.rules.specs.Parts.{Served, Serving}
 use Rattle.rules.specs.Rules.{isWrite, noRequest, accepts, writeAnswer, handleWriteRule, cleared}
 use Rattle.rules_laws.specs.All.{All}
@@ -71,12 +72,13 @@ noBoard count last = record {
   sent = replicate count 0;
   requests = replicate count [];
   responses = replicate count [];
-  ids = replicate count 0;
+  held = elected (replicate count 0);
   terms = replicate count 0;
   last = last;
 }
 
 pub no-board-fits : (count : ℕ) (running : Bool) (last : ℕ) → last ≤ topTerm → BoardFits count running (noBoard count last)
+unfolding elected
 no-board-fits count running last u = record {
   opens-size = length-replicate count false;
   sent-size = length-replicate count 0;
@@ -85,7 +87,7 @@ no-board-fits count running last u = record {
   ids-size = length-replicate count 0;
   terms-size = length-replicate count 0;
   streams = λ i. rw (replicate-at count false i, replicate-at {A = ℕ} count 0 i, replicate-at {A = List Request} count [] i, replicate-at {A = List Response} count [] i) no-stream;
-  distinct = no-ids count;
+  held = record { distinct = no-ids count; made = refl };
   stopped = λ e. all-replicate (λ o. o ≡ false) count false refl;
   last = u;
 }
@@ -101,7 +103,7 @@ cleared-fits {count} {w = w} running′ h = rw (
   same {B = ℕ} (w .sent) 0,
   same {B = List Request} (w .requests) [],
   same {B = List Response} (w .responses) [],
-  same {B = ℕ} (w .ids) 0,
+  same {B = ℕ} (w .held .ids) 0,
   same {B = ℕ} (w .terms) 0,
   h .opens-size,
   h .sent-size,
@@ -126,7 +128,7 @@ started-fits h = record {
   ids-size = h .ids-size;
   terms-size = h .terms-size;
   streams = h .streams;
-  distinct = h .distinct;
+  held = h .held;
   stopped = λ e. absurd (true≢false e);
   last = h .last;
 }

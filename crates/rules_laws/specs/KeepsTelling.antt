@@ -1,5 +1,6 @@
 -- Closing a stream and handling an update keep the board in range: the telling of all, the closed stream, the updated one. Assumes nothing.
 use mathlib.Core.Path.{_≡_, refl, sym, ap, _∙_}
+use mathlib.Core.Logic.{_≢_}
 use mathlib.Core.Bool.{Bool, true, false, not, cond, _||_, true≢false}
 use mathlib.Core.List.{List, [], _∷_}
 use Prim.Native.Nat.{ℕ, zero, suc, _-_, _≤_, _<_}
@@ -9,12 +10,12 @@ use lib.ListN.{length, getD, set, length-set}
 use lib.Seq.{getD-set-same, getD-set-other, set-getD}
 use lib.Dec.{T, eqb}
 use Rattle.rules.specs.Limits.{topId}
-use Rattle.rules.specs.State.{Response, ok, alreadyExists, notFound, Board, update}
+use Rattle.rules.specs.State.{Response, ok, alreadyExists, notFound, Held, Board, update}
 use Rattle.rules.specs.Queues.{push, empty, room}
 use Rattle.rules.specs.Parts.{Told, tellPart}
-use Rattle.rules.specs.Election.{largest, masterOf, taken, statusFor, news, tellFrom, tellAll, roomOpen}
-use Rattle.rules.specs.Rules.{isUpdate, noRequest, idsLeft, opensLeft, responsesLeft, changes, closeRoom, closed, closeRule, asked, idsWith, updateRoom, updated, handleUpdateRule}
-use Rattle.rules_laws.specs.InRange.{QueueFits, RequestFits, AnswerFits, ResponseFits, BoardFits}
+use Rattle.rules.specs.Election.{largest, elected, holding, taken, statusFor, news, tellFrom, tellAll, roomOpen}
+use Rattle.rules.specs.Rules.{isUpdate, noRequest, heldLeft, opensLeft, responsesLeft, changes, closeRoom, closed, closeRule, asked, heldWith, updateRoom, updated, handleUpdateRule}
+use Rattle.rules_laws.specs.InRange.{Absent, QueueFits, RequestFits, AnswerFits, ResponseFits, HeldFits, BoardFits}
 use Rattle.rules_laws.specs.Tests.{_&_, as-is, is-yes, is-absent}
 use Rattle.rules_laws.specs.Lists.{all-set, at-set, queue-none, queue-rest, queue-first, queue-push, ids-set}
 use Rattle.rules_laws.specs.Answered.{Passes}
@@ -27,14 +28,14 @@ unfolding largest
 largest-le top [] h = omega arith
 largest-le top (x ∷ ids) h = let y : x ≤ top = h 0 in let z = largest-le top ids (λ i. h (suc i)) in omega arith
 
-news-fits : (ids : List ℕ) → ((i : ℕ) → getD ids i 0 ≤ topId) → (n : ℕ) → ResponseFits (news ids n)
+news-fits : (h : Held) → h .largest ≤ topId → (n : ℕ) → ResponseFits (news h n)
 unfolding news statusFor
-news-fits ids h n = go (eqb (masterOf ids) 0) (eqb (masterOf ids) n)
+news-fits h k n = go (eqb (h .master) 0) (eqb (h .master) n)
   where
-    go : (a b : Bool) → AnswerFits update (cond a notFound (cond b ok alreadyExists)) (largest ids)
-    go true b = largest-le topId ids h
-    go false true = largest-le topId ids h
-    go false false = largest-le topId ids h
+    go : (a b : Bool) → AnswerFits update (cond a notFound (cond b ok alreadyExists)) (h .largest)
+    go true b = k
+    go false true = k
+    go false false = k
 
 -- ---- every open stream is told
 
@@ -86,8 +87,15 @@ module _ {count : ℕ} {running : Bool} {w : Board} (h : BoardFits count running
   abbrev v : Told
   v = seen running w n
 
-  ids-high : (id : ℕ) → id ≤ topId → (i : ℕ) → getD (set (w .ids) (n - 1) id) i 0 ≤ topId
-  ids-high id k i = at-set (λ x. x ≤ topId) (w .ids) (n - 1) i id 0 k (h .streams i .id-high)
+  -- Node n's id is another, which no other node holds.
+  holding-fits : (id : ℕ) → (id ≢ 0 → Absent id (set (w .held .ids) (n - 1) 0)) → HeldFits (holding n id (w .held))
+  unfolding holding elected
+  holding-fits id f = record { distinct = ids-set (w .held .ids) (n - 1) id f (h .held .distinct); made = refl }
+
+  holding-news : (id : ℕ) → id ≤ topId → (m : ℕ) → ResponseFits (news (holding n id (w .held)) m)
+  unfolding holding elected
+  holding-news id k = news-fits (elected (set (w .held .ids) (n - 1) id)) (largest-le topId (set (w .held .ids) (n - 1) id)
+      (λ i. at-set (λ x. x ≤ topId) (w .held .ids) (n - 1) i id 0 k (h .streams i .id-high)))
 
   -- Without stream n.
   left-fits : ResponsesFit count (set (w .opens) (n - 1) false) (set (w .responses) (n - 1) [])
@@ -101,57 +109,59 @@ module _ {count : ℕ} {running : Bool} {w : Board} (h : BoardFits count running
       others i (yes z) e = rw z (getD-set-same (w .responses) (n - 1) [] [] (rw (h .responses-size) place))
       others i (no z) e = getD-set-other (w .responses) (n - 1) i [] [] z ∙ h .streams i .shut (sym (getD-set-other (w .opens) (n - 1) i false false z) ∙ e) .no-responses
 
-  pub closed-fits : T (closeRoom n v) → Anew count running w n (closed n v)
-  unfolding closeRoom closed idsLeft opensLeft responsesLeft
+  pub closed-fits : T (closeRoom n v) → Anew count running w n (closed n v) (heldLeft n v)
+  unfolding closeRoom closed heldLeft holding elected opensLeft responsesLeft
   closed-fits r = record {
-    responses = go (changes (w .ids) (idsLeft n v)) r;
+    responses = go (changes (w .held) (heldLeft n v)) r;
     sent = omega arith;
     requests = queue-none RequestFits;
     id = omega arith;
     term = omega arith;
     shut = λ e. record { no-sent = refl; no-requests = refl; no-responses = refl; no-id = refl; no-term = refl };
-    distinct = ids-set (w .ids) (n - 1) 0 (λ z. absurd (z refl)) (h .distinct);
+    ids = refl;
+    held = holding-fits 0 (λ z. absurd (z refl));
     stopped = λ e. all-set (λ o. o ≡ false) (w .opens) (n - 1) false refl (h .stopped e);
   }
     where
       go : (b : Bool) → T (not b || roomOpen (opensLeft n v) (responsesLeft n v))
-          → ResponsesFit count (opensLeft n v) (cond b (tellAll (news (idsLeft n v)) (opensLeft n v) (responsesLeft n v)) (responsesLeft n v))
-      go true t = told-fits (news (idsLeft n v)) (news-fits (idsLeft n v) (ids-high 0 (omega arith))) count (opensLeft n v) (responsesLeft n v) t left-fits
+          → ResponsesFit count (opensLeft n v) (cond b (tellAll (news (heldLeft n v)) (opensLeft n v) (responsesLeft n v)) (responsesLeft n v))
+      go true t = told-fits (news (heldLeft n v)) (holding-news 0 (omega arith)) count (opensLeft n v) (responsesLeft n v) t left-fits
       go false t = left-fits
 
-  pub close-fits : Passes (closeRule n) v → Anew count running w n (closeRule n .effect v)
-  unfolding closeRule
+  pub close-fits : Passes (closeRule n) v → Anew count running w n (closeRule n .effect v) (holding n (closeRule n .effect v .id) (w .held))
+  unfolding closeRule closed heldLeft
   close-fits p = closed-fits (p .queues)
 
-  updated-fits : running ≡ true → getD (w .opens) (n - 1) false ≡ true → RequestFits (asked v) → T (not (taken n (asked v .id) (w .ids))) → T (updateRoom n v)
-      → Anew count running w n (updated n v)
-  unfolding taken updateRoom updated idsWith
+  updated-fits : running ≡ true → getD (w .opens) (n - 1) false ≡ true → RequestFits (asked v) → T (not (taken n (asked v .id) (w .held .ids))) → T (updateRoom n v)
+      → Anew count running w n (updated n v) (heldWith n v)
+  unfolding taken updateRoom updated heldWith holding elected
   updated-fits r o k free room-left = record {
-    responses = rw (ap (set (w .opens) (n - 1)) (sym o) ∙ set-getD (w .opens) (n - 1) false) (go (changes (w .ids) (idsWith n v)) room-left);
+    responses = rw (ap (set (w .opens) (n - 1)) (sym o) ∙ set-getD (w .opens) (n - 1) false) (go (changes (w .held) (heldWith n v)) room-left);
     sent = h .streams (n - 1) .sent-high;
     requests = queue-rest RequestFits (v .requests) (h .streams (n - 1) .requests-fit);
     id = k .id .upper;
     term = k .term .upper;
     shut = λ e. absurd (true≢false e);
-    distinct = ids-set (w .ids) (n - 1) (asked v .id) (λ z. is-absent (asked v .id) (set (w .ids) (n - 1) 0) .to free) (h .distinct);
+    ids = refl;
+    held = holding-fits (asked v .id) (λ z. is-absent (asked v .id) (set (w .held .ids) (n - 1) 0) .to free);
     stopped = λ e. absurd (true≢false (sym r ∙ e));
   }
     where
-      told : (m : ℕ) → ResponseFits (news (idsWith n v) m)
-      told = news-fits (idsWith n v) (ids-high (asked v .id) (k .id .upper))
+      told : (m : ℕ) → ResponseFits (news (heldWith n v) m)
+      told = holding-news (asked v .id) (k .id .upper)
 
       go : (b : Bool) → T (cond b (roomOpen (w .opens) (w .responses)) (room (getD (w .responses) (n - 1) [])))
           → ResponsesFit count (w .opens)
-          (cond b (tellAll (news (idsWith n v)) (w .opens) (w .responses)) (set (w .responses) (n - 1) (push (news (idsWith n v) n) (getD (w .responses) (n - 1) []))))
-      go true t = told-fits (news (idsWith n v)) told count (w .opens) (w .responses) t (responses-fit h)
+          (cond b (tellAll (news (heldWith n v)) (w .opens) (w .responses)) (set (w .responses) (n - 1) (push (news (heldWith n v) n) (getD (w .responses) (n - 1) []))))
+      go true t = told-fits (news (heldWith n v)) told count (w .opens) (w .responses) t (responses-fit h)
       go false t = own-queue (n - 1) o
           (queue-push ResponseFits _ (getD (w .responses) (n - 1) []) (told n) t (h .streams (n - 1) .responses-fit)) (responses-fit h)
 
-  pub handle-update-fits : Passes (handleUpdateRule n) v → Anew count running w n (handleUpdateRule n .effect v)
-  unfolding handleUpdateRule
-  handle-update-fits p = go (taken n (asked v .id) (w .ids)) refl (p .queues)
+  pub handle-update-fits : Passes (handleUpdateRule n) v → Anew count running w n (handleUpdateRule n .effect v) (holding n (handleUpdateRule n .effect v .id) (w .held))
+  unfolding handleUpdateRule closed updated heldLeft heldWith
+  handle-update-fits p = go (taken n (asked v .id) (w .held .ids)) refl (p .queues)
     where
-      go : (b : Bool) → taken n (asked v .id) (w .ids) ≡ b → T (cond b (closeRoom n v) (updateRoom n v)) → Anew count running w n (cond b (closed n v) (updated n v))
+      go : (b : Bool) → taken n (asked v .id) (w .held .ids) ≡ b → T (cond b (closeRoom n v) (updateRoom n v)) → Anew count running w n (cond b (closed n v) (updated n v)) (holding n (cond b (closed n v) (updated n v) .id) (w .held))
       go true e q = closed-fits q
       go false e q =
           let a = (is-yes running & is-yes (getD (w .opens) (n - 1) false) & as-is (not (empty (v .requests))) & as-is (isUpdate (asked v .message))) .to (p .allowed) in

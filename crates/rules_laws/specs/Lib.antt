@@ -1,6 +1,6 @@
 -- Believed: All, Answered.
 -- Definitions: Computed, InRange.
--- Laws: Tests, RangeTest, Lists, Ids, Decide, Boards, KeepsService, KeepsNode, KeepsTelling, KeepsSwitch, Keeps, Answers, Steps, Runs, Kinds.
+-- Laws: Tests, RangeTest, Lists, Ids, Elections, Decide, Boards, KeepsService, KeepsNode, KeepsTelling, KeepsSwitch, Keeps, Answers, Steps, Stored, Runs, Kinds.
 pub mod All
 pub mod Computed
 pub mod InRange
@@ -9,6 +9,7 @@ pub mod Tests
 pub mod RangeTest
 pub mod Lists
 pub mod Ids
+pub mod Elections
 pub mod Decide
 pub mod Boards
 pub mod KeepsService
@@ -18,5 +19,6 @@ pub mod KeepsSwitch
 pub mod Keeps
 pub mod Answers
 pub mod Steps
+pub mod Stored
 pub mod Runs
 pub mod Kinds

@@ -149,6 +149,16 @@ pigeonhole (suc n) l a d =
     down : (x : ℕ) → Within 1 (suc n) x → x ≢ suc n → Within 1 n x
     down x k z = let u : x ≤ suc n = k .upper in record { lower = k .lower; upper = omega arith }
 
+-- ---- a search
+
+pub before-first : (x : ℕ) (l : List ℕ) → before x (x ∷ l) ≡ 0
+unfolding before
+before-first x l = simp (eq-eqb x x refl)
+
+pub before-later : (y x : ℕ) (l : List ℕ) → y ≢ x → before y (x ∷ l) ≡ suc (before y l)
+unfolding before
+before-later y x l h = simp (ne-eqb y x h)
+
 -- ---- distinct ids
 
 pub ids-set : (l : List ℕ) (i x : ℕ) → (x ≢ 0 → Absent x (set l i 0)) → DistinctIds l → DistinctIds (set l i x)

@@ -10,9 +10,10 @@ use lib.ListN.{length, getD, List·getD-eq-default}
 use lib.Dec.{T, eqb}
 use borrow.Author.Tests.{eq-eqb, ne-eqb}
 use Rattle.rules.specs.Limits.{mostNodes, topTerm, topId, queueLength, historyLength}
-use Rattle.rules.specs.State.{Mastership, Message, update, write, Status, ok, alreadyExists, notFound, permissionDenied, Request, Response, Write, Desk, Board, Core, State}
-use Rattle.rules.specs.Range.{queueFits, backupFits, mastershipFits, serviceFits, learnedFits, deskFits, requestFits, answerFits, responseFits, streamFits, boardFits, writeFits, coreFits, inRange}
-use Rattle.rules_laws.specs.InRange.{QueueFits, BackupFits, MastershipFits, ServiceFits, masterless, ruled, LearnedFits, unlearned, knows, DeskFits, RequestFits, AnswerFits, ResponseFits, StreamFits, StreamAt, BoardFits, WriteFits, CoreFits, InRange}
+use Rattle.rules.specs.State.{Mastership, Message, update, write, Status, ok, alreadyExists, notFound, permissionDenied, Request, Response, Write, Desk, Held, Board, Core, State}
+use Rattle.rules.specs.Range.{queueFits, backupFits, mastershipFits, serviceFits, learnedFits, deskFits, requestFits, answerFits, responseFits, streamFits, heldFits, boardFits, writeFits, coreFits, inRange}
+use Rattle.rules.specs.Election.{largest, masterOf, elected}
+use Rattle.rules_laws.specs.InRange.{QueueFits, BackupFits, MastershipFits, ServiceFits, masterless, ruled, LearnedFits, unlearned, knows, DeskFits, RequestFits, AnswerFits, ResponseFits, StreamFits, StreamAt, HeldFits, BoardFits, WriteFits, CoreFits, InRange}
 use Rattle.rules_laws.specs.Tests.{Is, is-map, _&_, is-not, is-unless, is-le, is-eq, is-ne, is-within, is-empty, is-all, is-each, is-distinct, is-distinct-ids}
 
 -- ---- the service and the nodes
@@ -122,16 +123,23 @@ no-stream = record {
   shut = λ e. record { no-sent = refl; no-requests = refl; no-responses = refl; no-id = refl; no-term = refl };
 }
 
+is-held : (h : Held) → Is (heldFits h) (HeldFits h)
+unfolding heldFits elected
+is-held h =
+    is-map (λ t. record { distinct = t .0 .0; made = λ i. record { ids = h .ids; master = t .0 .1 i; largest = t .1 i } })
+    (λ k. ((k .distinct, ap (λ x. x .master) (k .made)), ap (λ x. x .largest) (k .made)))
+    (is-distinct-ids (h .ids) & is-eq (h .master) (masterOf (h .ids)) & is-eq (h .largest) (largest (h .ids)))
+
 module _ (count : ℕ) (running : Bool) (w : Board) where
   past : {A : Type 0} (l : List A) (d : A) (i : ℕ) → length l ≡ count → ¬ (i < count) → getD l i d ≡ d
   past l d i e h = List·getD-eq-default l d (let z : length l ≡ count = e in omega arith)
 
   -- Past the end every stream is a closed one.
-  every : length (w .opens) ≡ count → length (w .sent) ≡ count → length (w .requests) ≡ count → length (w .responses) ≡ count → length (w .ids) ≡ count → length (w .terms) ≡ count
+  every : length (w .opens) ≡ count → length (w .sent) ≡ count → length (w .requests) ≡ count → length (w .responses) ≡ count → length (w .held .ids) ≡ count → length (w .terms) ≡ count
       → ((i : ℕ) → i < count → StreamAt w i) → (i : ℕ) → Dec (i < count) → StreamAt w i
   every a b c d e f h i (yes k) = h i k
   every a b c d e f h i (no z) =
-      rw (past (w .opens) false i a z, past (w .sent) 0 i b z, past (w .requests) [] i c z, past (w .responses) [] i d z, past (w .ids) 0 i e z, past (w .terms) 0 i f z) no-stream
+      rw (past (w .opens) false i a z, past (w .sent) 0 i b z, past (w .requests) [] i c z, past (w .responses) [] i d z, past (w .held .ids) 0 i e z, past (w .terms) 0 i f z) no-stream
 
   is-board : Is (boardFits count running w) (BoardFits count running w)
   unfolding boardFits
@@ -145,15 +153,15 @@ module _ (count : ℕ) (running : Bool) (w : Board) where
         ids-size = s .0 .1;
         terms-size = s .1;
         streams = λ i. every (s .0 .0 .0 .0 .0) (s .0 .0 .0 .0 .1) (s .0 .0 .0 .1) (s .0 .0 .1) (s .0 .1) (s .1) (t .0 .0 .0 .1) i (decLt i count);
-        distinct = t .0 .0 .1;
+        held = t .0 .0 .1;
         stopped = t .0 .1;
         last = t .1;
       })
-      (λ k. (((((((((k .opens-size, k .sent-size), k .requests-size), k .responses-size), k .ids-size), k .terms-size), λ i l. k .streams i), k .distinct), k .stopped), k .last))
+      (λ k. (((((((((k .opens-size, k .sent-size), k .requests-size), k .responses-size), k .ids-size), k .terms-size), λ i l. k .streams i), k .held), k .stopped), k .last))
       (is-eq (length (w .opens)) count & is-eq (length (w .sent)) count & is-eq (length (w .requests)) count & is-eq (length (w .responses)) count
-      & is-eq (length (w .ids)) count & is-eq (length (w .terms)) count
-      & is-each (λ i. is-stream (getD (w .opens) i false) (getD (w .sent) i 0) (getD (w .requests) i []) (getD (w .responses) i []) (getD (w .ids) i 0) (getD (w .terms) i 0)) count
-      & is-distinct-ids (w .ids)
+      & is-eq (length (w .held .ids)) count & is-eq (length (w .terms)) count
+      & is-each (λ i. is-stream (getD (w .opens) i false) (getD (w .sent) i 0) (getD (w .requests) i []) (getD (w .responses) i []) (getD (w .held .ids) i 0) (getD (w .terms) i 0)) count
+      & is-held (w .held)
       & is-unless running (is-not running) (is-all is-not (w .opens))
       & is-le (w .last) topTerm)
 

@@ -22,7 +22,7 @@ pub record Row : Type 0 where
 -- Node i + 1 has place i; past the end nothing waits and nothing is held.
 abbrev pub rowAt : State → ℕ → Row
 rowAt s i = let w = s .core .board in
-    record { learned = getD (s .core .learned) i blank; requests = getD (w .requests) i []; id = getD (w .ids) i 0; term = getD (w .terms) i 0 }
+    record { learned = getD (s .core .learned) i blank; requests = getD (w .requests) i []; id = getD (w .held .ids) i 0; term = getD (w .terms) i 0 }
 
 abbrev pub eventsAt : State → ℕ → List Mastership
 eventsAt s i = getD (s .core .desk .events) i []

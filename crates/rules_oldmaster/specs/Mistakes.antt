@@ -7,6 +7,7 @@ use native.Mathlib.Omega.{arith}
 use lib.Dec.{T, eqb}
 use Rattle.rules.specs.State.{Write, State}
 use Rattle.rules.specs.Range.{inRange}
+use Rattle.rules.specs.Election.{elected}
 use Rattle.rules.specs.Parts.{withCore, withBoard}
 use Rattle.rules.specs.Step.{Event, ofState, fresh}
 use Rattle.rules_laws.specs.Computed.{computed}
@@ -24,32 +25,32 @@ abbrev properly : Stepping
 properly e s = ofState true e s .state
 
 -- The state with these ids and this last accepted term.
-abbrev holding : List ℕ → ℕ → State → State
-holding ids last s = let w = s .core .board in withCore (withBoard (record {
+abbrev having : List ℕ → ℕ → State → State
+having ids last s = let w = s .core .board in withCore (withBoard (record {
   opens = w .opens;
   sent = w .sent;
   requests = w .requests;
   responses = w .responses;
-  ids = ids;
+  held = elected ids;
   terms = w .terms;
   last = last;
 }) (s .core)) s
 
 -- A write is judged by its id alone: there is no last accepted term to test.
 abbrev byIdAlone : Stepping
-byIdAlone e s = properly e (holding (s .core .board .ids) 0 s)
+byIdAlone e s = properly e (having (s .core .board .held .ids) 0 s)
 
 -- An accepted write does not raise the last accepted term.
 abbrev notRaised : Stepping
-notRaised e s = let t = properly e s in holding (t .core .board .ids) (s .core .board .last) t
+notRaised e s = let t = properly e s in having (t .core .board .held .ids) (s .core .board .last) t
 
 -- A shutdown forgets it.
 abbrev forgotten : Stepping
-forgotten e s = let t = properly e s in cond (eqb (e .kind) 12) (holding (t .core .board .ids) 0 t) t
+forgotten e s = let t = properly e s in cond (eqb (e .kind) 12) (having (t .core .board .held .ids) 0 t) t
 
 -- A closed stream's id stays.
 abbrev idStays : Stepping
-idStays e s = let t = properly e s in cond (eqb (e .kind) 9) (holding (s .core .board .ids) (t .core .board .last) t) t
+idStays e s = let t = properly e s in cond (eqb (e .kind) 9) (having (s .core .board .held .ids) (t .core .board .last) t) t
 
 -- ---- the steps, of two nodes
 

@@ -7,6 +7,7 @@ use native.Mathlib.Omega.{arith}
 use lib.Seq.{append-snoc}
 use Rattle.rules.specs.State.{Mastership, Request, Write, blank}
 use Rattle.rules.specs.Queues.{push, first}
+use Rattle.rules.specs.Election.{elected}
 use Rattle.rules.specs.Rules.{noRequest}
 use Rattle.rules.specs.Step.{Event, step, fresh}
 use Rattle.rules_laws.specs.Lists.{replicate-at}
@@ -51,7 +52,7 @@ module _ (count : ℕ) where
         (record { before = named-later; now = named-now (es ++ (e ∷ [])); only = named-earlier }) h changed
 
   lawful-fresh : Lawful (Named count []) (fresh count)
-  unfolding fresh
+  unfolding fresh elected
   lawful-fresh = record {
     once = λ x y p q a. absurd (a (nobody x p .0));
     bound = λ x p. let z = nobody x p .1 in omega arith;

@@ -13,7 +13,7 @@ use lib.Dec.{T, eqb}
 use Rattle.rules.specs.State.{Mastership, Message, update, write, Request, Desk, State, blank}
 use Rattle.rules.specs.Queues.{push, first, rest, empty, remove}
 use Rattle.rules.specs.Ids.{electionId, idFor}
-use Rattle.rules.specs.Election.{taken}
+use Rattle.rules.specs.Election.{elected, holding, taken}
 use Rattle.rules.specs.Parts.{Served, servicePart, sendPart, onDevice, tellPart}
 use Rattle.rules.specs.Rules.{posted, unposted, vacant, joined, joinRule, handsOver, left, leaveRule, learnRule, sendUpdateRule, sendWriteRule, isUpdate, isWrite, noRequest, closed, closeRule, asked, updated, handleUpdateRule, accepts, handleWriteRule, cleared, shutdownRule, startupRule, Kind, rule, join, leave, learns, sendUpdate, receiveUpdate, sendWrite, receiveWrite, connect, close, handleUpdate, handleWrite, shutdown, startup}
 use Rattle.rules.specs.Step.{Event, kindOf, step}
@@ -102,7 +102,7 @@ abbrev stored : State → ℕ → Row → ℕ → Row
 stored s n y i = let w = s .core .board in record {
   learned = getD (set (s .core .learned) (n - 1) (y .learned)) i blank;
   requests = getD (set (w .requests) (n - 1) (y .requests)) i [];
-  id = getD (set (w .ids) (n - 1) (y .id)) i 0;
+  id = getD (set (w .held .ids) (n - 1) (y .id)) i 0;
   term = getD (set (w .terms) (n - 1) (y .term)) i 0;
 }
 
@@ -125,13 +125,13 @@ module _ {s : State} (r : InRange s) {n : ℕ} (node : Within 1 (s .count) n) wh
         e,
         getD-set-same (s .core .learned) (n - 1) (y .learned) blank (rw (r .core .learned-size) place),
         getD-set-same (w .requests) (n - 1) (y .requests) [] (rw (h .requests-size) place),
-        getD-set-same (w .ids) (n - 1) (y .id) 0 (rw (h .ids-size) place),
+        getD-set-same (w .held .ids) (n - 1) (y .id) 0 (rw (h .ids-size) place),
         getD-set-same (w .terms) (n - 1) (y .term) 0 (rw (h .terms-size) place),
       ) k
       go (no z) = let w = s .core .board in rw (
         getD-set-other (s .core .learned) (n - 1) i (y .learned) blank z,
         getD-set-other (w .requests) (n - 1) i (y .requests) [] z,
-        getD-set-other (w .ids) (n - 1) i (y .id) 0 z,
+        getD-set-other (w .held .ids) (n - 1) i (y .id) 0 z,
         getD-set-other (w .terms) (n - 1) i (y .term) 0 z,
       ) same
 
@@ -170,7 +170,7 @@ module _ {s : State} (r : InRange s) {n : ℕ} (node : Within 1 (s .count) n) wh
   -- ---- the switch: 9 to 11
 
   shut-change : {e : Event} → Change e s (onDevice (tellPart n) .put (closed n (sees close n s)) s)
-  unfolding closed
+  unfolding closed holding elected
   shut-change = undesked refl (λ i. simp set-getD at (anew _ Change.shut i)) (kept refl refl)
 
   close-change : {e : Event} → Change e s (after close n s)
@@ -178,7 +178,7 @@ module _ {s : State} (r : InRange s) {n : ℕ} (node : Within 1 (s .count) n) wh
   close-change = shut-change
 
   taken-change : {e : Event} → T (not (empty (own .requests))) → Change e s (onDevice (tellPart n) .put (updated n (sees handleUpdate n s)) s)
-  unfolding updated
+  unfolding updated holding elected
   taken-change t = undesked refl (λ i. simp set-getD at (anew _ (Change.takes _ _ (whole noRequest (own .requests) t)) i)) (kept refl refl)
 
   handle-update-change : {e : Event} → Passes (handleUpdateRule n) (sees handleUpdate n s) → Change e s (after handleUpdate n s)
@@ -186,7 +186,7 @@ module _ {s : State} (r : InRange s) {n : ℕ} (node : Within 1 (s .count) n) wh
   handle-update-change p =
       let v = sees handleUpdate n s in
       let a = (as-is (v .running) & as-is (getD (v .opens) (n - 1) false) & as-is (not (empty (v .requests))) & as-is (isUpdate (asked v .message))) .to (p .allowed) in
-      go (taken n (asked v .id) (v .ids)) (a .0 .1)
+      go (taken n (asked v .id) (v .held .ids)) (a .0 .1)
     where
       go : {e : Event} (b : Bool) → T (not (empty (own .requests)))
           → Change e s (onDevice (tellPart n) .put (cond b (closed n (sees handleUpdate n s)) (updated n (sees handleUpdate n s))) s)
@@ -201,9 +201,9 @@ about-write update t = absurd t
 about-write write t = refl
 
 -- What is used of the switch's test. Who its master is goes unread.
-judged : (n : ℕ) (v : Served) → T (accepts n v) → (getD (v .ids) (n - 1) 0 ≡ first noRequest (v .requests) .id) × (v .last ≤ v .term)
+judged : (n : ℕ) (v : Served) → T (accepts n v) → (v .id ≡ first noRequest (v .requests) .id) × (v .last ≤ v .term)
 unfolding accepts
-judged n v t = let a = (is-eq (getD (v .ids) (n - 1) 0) (first noRequest (v .requests) .id) & as-is _ & is-le (v .last) (v .term)) .to t in (a .0 .0, a .1)
+judged n v t = let a = (is-eq (v .id) (first noRequest (v .requests) .id) & as-is _ & is-le (v .last) (v .term)) .to t in (a .0 .0, a .1)
 
 -- A passing Handle write of the event's node, where the switch accepts or not.
 handle-write-history : {e : Event} {s : State} → kindOf (e .kind) ≡ some handleWrite → 1 ≤ e .node → let v = sees handleWrite (e .node) s in
@@ -226,9 +226,9 @@ handle-write-change {e} {s} r k node p =
 -- ---- 12 Shutdown
 
 shutdown-change : {e : Event} {s : State} → Change e s (after shutdown (e .node) s)
-unfolding shutdownRule cleared
+unfolding shutdownRule cleared elected
 shutdown-change {s = s} = let w = s .core .board in
-    undesked refl (λ i. rw (none {A = List Request} [] (w .requests) i, none 0 (w .ids) i, none 0 (w .terms) i) Change.shut) (kept refl refl)
+    undesked refl (λ i. rw (none {A = List Request} [] (w .requests) i, none 0 (w .held .ids) i, none 0 (w .terms) i) Change.shut) (kept refl refl)
   where
     none : {A : Type 0} (x : A) (l : List A) (i : ℕ) → getD (map (λ y. x) l) i x ≡ x
     none x l i = List·getD-map (λ y. x) l i x

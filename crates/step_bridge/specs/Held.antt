@@ -16,7 +16,7 @@ use Rattle.any_list.specs.Padded.{held-padded}
 use Rattle.any_list.specs.Tables.{table-column}
 use Rattle.step_parts.specs.Hold.{holdMastership, packMastership, noMastership, holdRequest, packRequest, noRequest, holdResponse, packResponse, noResponse, holdWrite, packWrite}
 use Rattle.step_parts.specs.Ordered.{mastership-back, request-back, response-back}
-use Rattle.step_state.specs.Hold.{eventsAt, learnedAt, saysAt, openAt, sentAt, requestsAt, responsesAt, idAt, termAt, controllerRow, streamRow, idRow, termRow, packControllers, packStreams, packClaims, packCore, packHistory, noWrite, holdBoard, holdDesk, holdCore, holdHistory, hold, represent}
+use Rattle.step_state.specs.Hold.{eventsAt, learnedAt, saysAt, openAt, sentAt, requestsAt, responsesAt, idAt, termAt, controllerRow, streamRow, idRow, termRow, packControllers, packStreams, packClaims, packCore, packHistory, noWrite, holdHeld, holdBoard, holdDesk, holdCore, holdHistory, hold, represent}
 
 -- A column as long as there are nodes, of rows that were made of it.
 column-back : {R B : Type 0} (g : R → B) (f : ℕ → R) (l : List B) (d : B) (n : ℕ) → n ≤ mostNodes → length l ≡ n → ((i : ℕ) → g (f i) ≡ getD l i d) → column g n (table mostNodes f) ≡ l
@@ -36,13 +36,13 @@ module _ (n : ℕ) (few : n ≤ mostNodes) (events : List (List S.Mastership)) (
   says-back e = column-back saysAt (controllerRow events learned says) says false n few e (λ i. refl)
 
 pub board-back : (n : ℕ) (running : Bool) (w : S.Board) → n ≤ mostNodes → BoardFits n running w → holdBoard n (packStreams w) (packClaims w) ≡ w
-unfolding holdBoard packStreams packClaims
+unfolding holdBoard holdHeld packStreams packClaims
 board-back n running w few k = λ i. record {
   opens = column-back openAt (streamRow w) (w .opens) false n few (k .opens-size) (λ j. refl) i;
   sent = column-back sentAt (streamRow w) (w .sent) 0 n few (k .sent-size) (λ j. refl) i;
   requests = column-back requestsAt (streamRow w) (w .requests) [] n few (k .requests-size) (λ j. held-padded noRequest packRequest holdRequest request-back queueLength (getD (w .requests) j [])) i;
   responses = column-back responsesAt (streamRow w) (w .responses) [] n few (k .responses-size) (λ j. held-padded noResponse packResponse holdResponse response-back queueLength (getD (w .responses) j [])) i;
-  ids = column-back idAt (idRow (w .ids)) (w .ids) 0 n few (k .ids-size) (λ j. refl) i;
+  held = record { ids = column-back idAt (idRow (w .held .ids)) (w .held .ids) 0 n few (k .ids-size) (λ j. refl) i; master = w .held .master; largest = w .held .largest };
   terms = column-back termAt (termRow (w .terms)) (w .terms) 0 n few (k .terms-size) (λ j. refl) i;
   last = w .last;
 }

@@ -1,5 +1,5 @@
 -- A state in range that is written into structs is in order: what the functions on rows rest on. Assumes nothing.
-use mathlib.Core.Path.{refl, ap}
+use mathlib.Core.Path.{refl, sym, ap, _∙_}
 use mathlib.Core.Bool.{Bool}
 use mathlib.Core.List.{List, []}
 use Prim.Native.Nat.{ℕ, _≤_}
@@ -9,13 +9,14 @@ use lib.ListN.{length, getD}
 use Rattle.rules.specs.Limits.{mostNodes, mostBackups}
 use Rattle.rules.specs.State as S
 use Rattle.rules.specs.Range.{inRange}
+use Rattle.rules.specs.Election.{elected}
 use Rattle.rules_laws.specs.InRange.{QueueFits, MastershipFits, ServiceFits, masterless, ruled, LearnedFits, unlearned, knows, CoreFits}
 use Rattle.rules_laws.specs.RangeTest.{range-sound}
 use Rattle.rules_laws.specs.Lists.{all-getD, queue-none}
 use Rattle.rules_laws.specs.Ids.{fewer-backups}
 use Rattle.any_list.specs.Tables.{table-get}
 use Rattle.step_parts.specs.Ordered.{OrderedMastership, ordered-mastership, ordered-events, ordered-requests, ordered-responses}
-use Rattle.step_state.specs.Hold.{controllerRow, streamRow, packControllers, packStreams, packClaims, packCore, represent}
+use Rattle.step_state.specs.Hold.{controllerRow, streamRow, holdHeld, holdBoard, packControllers, packStreams, packClaims, packCore, represent}
 use Rattle.step_state.specs.Order.{OrderedControllers, OrderedBoard, pastController, pastStream}
 use Rattle.step_bridge.specs.Held.{events-back, learned-back, says-back, board-back}
 
@@ -57,13 +58,14 @@ module _ (n : ℕ) (running : Bool) (c : S.Core) (few : n ≤ mostNodes) (k : Co
   }
 
   board-ordered : OrderedBoard n (packStreams (c .board)) (packClaims (c .board))
-  unfolding packStreams
+  unfolding packStreams holdBoard holdHeld
   board-ordered = let w = c .board in record {
     few = few;
     rows = λ i h. rw (table-get mostNodes (streamRow w) i pastStream (omega arith)) (record {
       requests = ordered-requests (getD (w .requests) i []) (k .board .streams i .requests-fit .short);
       responses = ordered-responses (getD (w .responses) i []) (k .board .streams i .responses-fit .short);
     });
+    kept = let back = board-back n running w few (k .board) in ap (λ (b : S.Board). b .held) back ∙ k .board .held .made ∙ ap (λ (b : S.Board). elected (b .held .ids)) (sym back);
     streams-same = ap packStreams (board-back n running w few (k .board));
     claims-same = ap packClaims (board-back n running w few (k .board));
   }

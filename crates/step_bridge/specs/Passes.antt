@@ -132,7 +132,7 @@ module _ (n : ℕ) (running : Bool) (c : S.Core) (few : n ≤ mostNodes) (k : Co
       let w = c .board in
       let controllers = table mostNodes (controllerRow (c .desk .events) (c .learned) (c .says)) in
       let streams = table mostNodes (streamRow w) in
-      let ids = table mostNodes (idRow (w .ids)) in
+      let ids = table mostNodes (idRow (w .held .ids)) in
       let terms = table mostNodes (termRow (w .terms)) in
       (as-is (tidyMastership (packMastership (c .desk .service))) & as-is (all tidyController (take n controllers)) & as-is (all blankController (drop n controllers))
       & as-is (all tidyStream (take n streams)) & as-is (all blankStream (drop n streams)) & as-is (all blankId (drop n ids)) & as-is (all blankTerm (drop n terms))) .from (
@@ -150,7 +150,7 @@ module _ (n : ℕ) (running : Bool) (c : S.Core) (few : n ≤ mostNodes) (k : Co
             ),
             from-all blankStream (drop n streams) (dropped-table (λ r. T (blankStream r)) n mostNodes (streamRow w) stream-blank),
           ),
-          from-all blankId (drop n ids) (dropped-table (λ r. T (blankId r)) n mostNodes (idRow (w .ids)) (λ i h. rw (past (w .ids) 0 i (k .board .ids-size) h) tt)),
+          from-all blankId (drop n ids) (dropped-table (λ r. T (blankId r)) n mostNodes (idRow (w .held .ids)) (λ i h. rw (past (w .held .ids) 0 i (k .board .ids-size) h) tt)),
         ),
         from-all blankTerm (drop n terms) (dropped-table (λ r. T (blankTerm r)) n mostNodes (termRow (w .terms)) (λ i h. rw (past (w .terms) 0 i (k .board .terms-size) h) tt)),
       )

@@ -31,7 +31,7 @@ use Rattle.step_state.specs.declared.Claims.{Claims}
 use Rattle.step_parts.specs.declared.Write.{Write}
 use Rattle.step_state.specs.declared.History.{History}
 use Rattle.step_state.specs.declared.State.{State}
-use Rattle.step_state.specs.Hold.{eventsAt, learnedAt, saysAt, openAt, sentAt, requestsAt, responsesAt, idAt, termAt, packController, packStream, controllerRow, streamRow, idRow, termRow, packControllers, packStreams, packClaims, packCore, packHistory, noWrite, holdBoard, holdDesk, holdCore, holdHistory, hold, represent}
+use Rattle.step_state.specs.Hold.{eventsAt, learnedAt, saysAt, openAt, sentAt, requestsAt, responsesAt, idAt, termAt, packController, packStream, controllerRow, streamRow, idRow, termRow, packControllers, packStreams, packClaims, packCore, packHistory, noWrite, holdHeld, holdBoard, holdDesk, holdCore, holdHistory, hold, represent}
 use Rattle.step_state.specs.Order.{pastController, pastStream}
 use Rattle.step_state.specs.Tidy.{isZero, noMessage, noStatus, blankMastership, blankRequest, blankResponse, tidyMastership, tidyRequest, tidyResponse, tidyPlaces, tidyController, tidyStream, blankController, blankStream, blankId, blankTerm, tidyCore, anyWrite, blankWrite, tidyHistory, stateFits}
 use Rattle.step_bridge.specs.Sized.{SizedMastership, SizedController, SizedStream, Sized}
@@ -272,7 +272,7 @@ module _ (n : ℕ) (few : n ≤ mostNodes) where
 
   claims-same : (l : List Stream) (c : Claims) → length (c .ids) ≡ mostNodes → length (c .terms) ≡ mostNodes → T (all blankId (drop n (c .ids))) → T (all blankTerm (drop n (c .terms)))
       → packClaims (holdBoard n l c) ≡ c
-  unfolding packClaims holdBoard
+  unfolding packClaims holdBoard holdHeld
   claims-same l c e e′ b b′ = let f : n ≤ length (c .ids) = omega arith in let f′ : n ≤ length (c .terms) = omega arith in λ i. record {
     ids = table-same mostNodes n (idRow (column idAt n (c .ids))) (c .ids) (record { 0 = 0 }) (record { 0 = 0 }) (λ x. x) e
         (all-refl (take n (c .ids))) (all-known blankId id-none (drop n (c .ids)) (all-any (drop n (c .ids))) b)
@@ -280,6 +280,7 @@ module _ (n : ℕ) (few : n ≤ mostNodes) where
     terms = table-same mostNodes n (termRow (column termAt n (c .terms))) (c .terms) (record { 0 = 0 }) (record { 0 = 0 }) (λ x. x) e′
         (all-refl (take n (c .terms))) (all-known blankTerm term-none (drop n (c .terms)) (all-any (drop n (c .terms))) b′)
         (λ j h z. record { 0 = column-at termAt n j (c .terms) (record { 0 = 0 }) h z }) (λ j h z. record { 0 = column-past termAt n j (c .terms) 0 f′ h z }) i;
+    elected = c .elected;
     last = c .last;
   }
 

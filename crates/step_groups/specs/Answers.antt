@@ -9,7 +9,7 @@ use Rattle.rules.specs.Limits.{queueLength}
 use Rattle.rules.specs.Queues.{room}
 use Rattle.rules.specs.Part.{Rule, done, need, decide}
 use Rattle.rules.specs.Parts.{Sender, Sent}
-use Rattle.rules.specs.Rules.{learnRule, sendUpdateRule, receiveUpdateRule, sendWriteRule, receiveWriteRule, closeRule, closeRoom, closed, idsLeft, opensLeft, responsesLeft, shutdownRule, startupRule}
+use Rattle.rules.specs.Rules.{learnRule, sendUpdateRule, receiveUpdateRule, sendWriteRule, receiveWriteRule, closeRule, closeRoom, closed, heldLeft, opensLeft, responsesLeft, shutdownRule, startupRule}
 use Rattle.any_list.specs.Queue.{room-held}
 use Rattle.step_parts.specs.Hold.{noRequest, packRequest, holdRequest, requestsQueue, holdRequests}
 use Rattle.step_state.specs.Order.{OrderedStream}
@@ -54,7 +54,7 @@ module _ (count : ℕ) (running : Bool) (streams : List Stream) (claims : Claims
 
   -- Close does not ask whether the switch runs.
   pub close-answer : (n : ℕ) → answerOf (decide (closeRule n) (toldOf count n true streams claims)) ≡ answerOf (decide (closeRule n) (toldOf count n running streams claims))
-  unfolding decide closeRule closeRoom closed idsLeft opensLeft responsesLeft
+  unfolding decide closeRule closeRoom closed heldLeft opensLeft responsesLeft
   close-answer n = refl
 
 -- ---- a step that sends: room for one request more

@@ -34,7 +34,7 @@ pub record RowGoes (a : Ask) (controller : Controller) (stream : Stream) (claims
   pub asks : RowAsks a controller stream
   pub roomy : (a .kind ≡ numberOf sendUpdate) ⊎ (a .kind ≡ numberOf sendWrite) → leb queueLength (stream .requests .len) ≡ false
   pub waits : a .kind ≡ numberOf receiveUpdate → Waits stream
-  pub can-write : a .kind ≡ numberOf handleWrite → CanWrite (a .count) (a .node) stream claims
+  pub can-write : a .kind ≡ numberOf handleWrite → CanWrite (a .node) stream claims
 
 -- A service that a node joins or leaves, where the answer is 0.
 pub record DeskGoes (a : Ask) (service : Mastership) : Type 0 where

@@ -100,7 +100,7 @@ module _ (b : Body) (n : ℕ) (a : At b n) where
         (λ (f : k ≡ 4). sends (R.sendUpdateRule n .allowed (senderOf (b .count) (controllerOf b n) (streamOf b n))) _ (send-update-answer (b .count) (controllerOf b n) (streamOf b n) (stream-ordered b n a) n ∙ at 4 f))
         (λ (f : k ≡ 6). sends (R.sendWriteRule n .allowed (senderOf (b .count) (controllerOf b n) (streamOf b n))) _ (send-write-answer (b .count) (controllerOf b n) (streamOf b n) (stream-ordered b n a) n ∙ at 6 f)) e;
     waits = λ f. waits b n a (is-true _ (receive-update-answer (b .count) (controllerOf b n) (streamOf b n) n ∙ at 5 f));
-    can-write = λ f. write-can (b .count) n (b .running) (streamOf b n) (b .core .claims) writes (at-stream b n a) (at 11 f);
+    can-write = λ f. write-can n (b .running) (streamOf b n) (b .core .claims) writes (at-stream b n a) (at 11 f);
   }
     where
       at : (j : ℕ) → k ≡ j → answerAt writes j ≡ stepDone
@@ -121,10 +121,10 @@ module _ (b : Body) (n : ℕ) (a : At b n) where
     unfolding storeHandled
     write-leaves z =
         let rule = R.handleWriteRule n in
-        let v = servedOf (b .count) n (b .running) (streamOf b n) (b .core .claims) (length history) in
-        let done : storeHandled (rule .effect (servedOf (b .count) n true (streamOf b n) (b .core .claims) 0)) (streamOf b n) ≡ storeHandled (rule .effect v) (streamOf b n) =
-        ap (λ (w : Serving). storeHandled w (streamOf b n)) (write-effect (b .count) n (b .running) (streamOf b n) (b .core .claims) (length history)) in
-        serve-yes b n a history rule (passes rule v z) _ refl (term-none (rule .effect (servedOf (b .count) n true (streamOf b n) (b .core .claims) 0) .accepted))
+        let v = servedOf n (b .running) (streamOf b n) (b .core .claims) (length history) in
+        let done : storeHandled (rule .effect (servedOf n true (streamOf b n) (b .core .claims) 0)) (streamOf b n) ≡ storeHandled (rule .effect v) (streamOf b n) =
+        ap (λ (w : Serving). storeHandled w (streamOf b n)) (write-effect n (b .running) (streamOf b n) (b .core .claims) (length history)) in
+        serve-yes b n a history rule (passes rule v z) _ refl (term-none (rule .effect (servedOf n true (streamOf b n) (b .core .claims) 0) .accepted))
         (ap (λ (l : List Controller). withDesk (b .core .service) l (rowBody b n (rowAfter (askOf b 11 n) (controllerOf b n) (streamOf b n) (b .core .claims)))) same-controllers
         ∙ ap (λ (h : Handled). withLast (h .last) (withStream n (h .stream) b)) done)
         (sym (accepted-back n v (streamOf b n)) ∙ ap (acceptedOf n) (sym done))

@@ -3,6 +3,7 @@ use mathlib.Core.Path.{_≡_, refl, sym, ap, _∙_}
 use mathlib.Core.Bool.{Bool, true, false, not}
 use mathlib.Core.List.{List, _++_, append-nil}
 use Prim.Native.Nat.{ℕ, _-_}
+use native.Mathlib.Omega.{arith}
 use lib.ListN.{length}
 use Rattle.rules.specs.Codes.{stepDone}
 use Rattle.rules.specs.State as S
@@ -57,12 +58,12 @@ module _ (b : Body) (n : ℕ) (a : At b n) (history : List S.Write) where
 
   module _ (r : Rule Served Serving) where
     abbrev u : Served
-    u = servedOf (b .count) n (b .running) (streamOf b n) (b .core .claims) (length history)
+    u = servedOf n (b .running) (streamOf b n) (b .core .claims) (length history)
 
-    pub serve-yes : Passes r (servedOf (b .count) n (b .running) (streamOf b n) (b .core .claims) (length history)) → (m : Moved) → m .code ≡ stepDone → (m .accepted ≡ false → m .term .0 ≡ 0)
-        → m .body ≡ withLast (record { 0 = r .effect (servedOf (b .count) n (b .running) (streamOf b n) (b .core .claims) (length history)) .last })
-        (withStream n (storeServing (r .effect (servedOf (b .count) n (b .running) (streamOf b n) (b .core .claims) (length history))) (streamOf b n)) b)
-        → r .effect (servedOf (b .count) n (b .running) (streamOf b n) (b .core .claims) (length history)) .accepted ≡ acceptedIn n m
+    pub serve-yes : Passes r (servedOf n (b .running) (streamOf b n) (b .core .claims) (length history)) → (m : Moved) → m .code ≡ stepDone → (m .accepted ≡ false → m .term .0 ≡ 0)
+        → m .body ≡ withLast (record { 0 = r .effect (servedOf n (b .running) (streamOf b n) (b .core .claims) (length history)) .last })
+        (withStream n (storeServing (r .effect (servedOf n (b .running) (streamOf b n) (b .core .claims) (length history))) (streamOf b n)) b)
+        → r .effect (servedOf n (b .running) (streamOf b n) (b .core .claims) (length history)) .accepted ≡ acceptedIn n m
         → Leaves n history (via (onDevice (servePart n)) (decide r) (stateOf b history)) m
     serve-yes p m c o f g =
         done-at (onDevice (servePart n)) r n b (a .ready) history u (served-read b n (row-in b n a) history) p m c o
@@ -72,8 +73,8 @@ module _ (b : Body) (n : ℕ) (a : At b n) where
   pub at-board : AtBoard (b .count) n (b .core .streams) (b .core .claims)
   at-board = record { board = in-order-board b (a .ready); from = a .low; upto = a .high }
 
-  pub at-stream : AtStream (b .count) n (streamOf b n)
-  at-stream = record { within = record { few = a .few; from = a .low; upto = a .high }; ordered = in-order-board b (a .ready) .rows (n - 1) (row-in b n a) }
+  pub at-stream : AtStream n (streamOf b n)
+  at-stream = record { from = a .low; upto = let few = a .few in let high = a .high in omega arith; ordered = in-order-board b (a .ready) .rows (n - 1) (row-in b n a) }
 
 -- ---- 12, 13 Shutdown, Startup: they carry node 0
 

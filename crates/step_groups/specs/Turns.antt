@@ -35,7 +35,7 @@ rowAnswer a writes controller stream claims =
     ∷ answerOf (decide (sendWriteRule (a .node)) (senderOf (a .count) controller stream))
     ∷ answerOf (decide receiveWriteRule (receiverOf (a .count) controller stream))
     ∷ answerOf (decide connectRule (linkedOf (a .running) stream)) ∷ []) (a .kind - numberOf learns)
-    (answerOf (decide (handleWriteRule (a .node)) (servedOf (a .count) (a .node) (a .running) stream claims writes)))
+    (answerOf (decide (handleWriteRule (a .node)) (servedOf (a .node) (a .running) stream claims writes)))
 
 -- Kinds 1 and 2.
 abbrev pub deskAnswer : Ask → Mastership → List Controller → ℕ
@@ -76,12 +76,12 @@ abbrev pub handledRow : Ask → Controller → Claims → Handled → Row
 handledRow a controller claims h = record {
   stream = h .stream;
   says = controller .says;
-  claims = record { ids = claims .ids; terms = claims .terms; last = h .last };
+  claims = record { ids = claims .ids; terms = claims .terms; elected = claims .elected; last = h .last };
   entry = record { accepted = h .accepted; node = a .node; term = h .term };
 }
 
 abbrev pub writtenRow : Ask → Controller → Stream → Claims → Row
-writtenRow a controller stream claims = handledRow a controller claims (storeHandled (handleWriteRule (a .node) .effect (servedOf (a .count) (a .node) true stream claims 0)) stream)
+writtenRow a controller stream claims = handledRow a controller claims (storeHandled (handleWriteRule (a .node) .effect (servedOf (a .node) true stream claims 0)) stream)
 
 -- Kinds 4 to 8, and 11.
 abbrev pub rowAfter : Ask → Controller → Stream → Claims → Row

@@ -65,14 +65,7 @@ pub fn row_code(ask: Ask, writes: u16, controller: Controller, stream: Stream, c
         ),
         step_parts::RECEIVE_WRITE => allowed_code(step_nodes::may_receive_write(stream)),
         step_parts::CONNECT => step_switch_row::connect_code(ask.running, stream),
-        _ => step_switch_row::handle_write_code(
-            ask.count,
-            ask.node,
-            ask.running,
-            stream,
-            claims,
-            writes,
-        ),
+        _ => step_switch_row::handle_write_code(ask.node, ask.running, stream, claims, writes),
     }
 }
 
@@ -149,10 +142,10 @@ fn flagged(ask: Ask, controller: Controller, stream: Stream, claims: Claims) -> 
 
 // Handle write: the last accepted term, and the write.
 fn written(ask: Ask, controller: Controller, stream: Stream, claims: Claims) -> Row
-    requires { ⌜ CanWrite (ask .count) (ask .node) stream claims ⌝ }
+    requires { ⌜ CanWrite (ask .node) stream claims ⌝ }
     ensures { λ r. ⌜ r ≡ writtenRow ask controller stream claims ⌝ }
 {
-    let handled = step_switch_row::handle_write(ask.count, ask.node, stream, claims);
+    let handled = step_switch_row::handle_write(ask.node, stream, claims);
     let next = handled.stream;
     let last = handled.last;
     let term = handled.term;

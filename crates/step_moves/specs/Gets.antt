@@ -7,7 +7,7 @@ use Rattle.rules.specs.State as S
 use Rattle.rules.specs.Parts.{learnPart, sendPart, receivePart, linkPart, servePart, onDevice}
 use Rattle.any_list.specs.Arrays.{column}
 use Rattle.any_list.specs.Columns.{column-at}
-use Rattle.step_state.specs.Hold.{eventsAt, learnedAt, saysAt, openAt, sentAt, requestsAt, responsesAt, holdCore, holdDesk, holdBoard}
+use Rattle.step_state.specs.Hold.{eventsAt, learnedAt, saysAt, openAt, sentAt, requestsAt, responsesAt, idAt, termAt, holdCore, holdDesk, holdHeld, holdBoard}
 use Rattle.step_state.specs.Order.{pastController, pastStream}
 use Rattle.step_state.specs.Reads.{inboxOf, senderOf, receiverOf, linkedOf, servedOf}
 use Rattle.step_state.specs.declared.Controller.{Controller}
@@ -59,15 +59,16 @@ module _ (b : Body) (n : ℕ) (lt : n - 1 < b .count) (history : List S.Write) w
   unfolding holdCore holdBoard
   linked-read = λ j. record { running = b .running; isOpen = in-streams openAt j }
 
-  pub served-read : servedOf (b .count) n (b .running) (streamOf b n) (b .core .claims) (length history) ≡ onDevice (servePart n) .get (stateOf b history)
-  unfolding holdCore holdBoard
+  pub served-read : servedOf n (b .running) (streamOf b n) (b .core .claims) (length history) ≡ onDevice (servePart n) .get (stateOf b history)
+  unfolding holdCore holdBoard holdHeld
   served-read = let s = onDevice (servePart n) .get (stateOf b history) in λ j. record {
     running = b .running;
     isOpen = in-streams openAt j;
     requests = in-streams requestsAt j;
     responses = in-streams responsesAt j;
-    ids = s .ids;
-    term = s .term;
+    id = sym (column-at idAt (b .count) (n - 1) (b .core .claims .ids) (record { 0 = 0 }) lt) j;
+    master = s .master;
+    term = sym (column-at termAt (b .count) (n - 1) (b .core .claims .terms) (record { 0 = 0 }) lt) j;
     last = s .last;
     writes = length history;
   }

@@ -50,7 +50,7 @@ module _ (w : S.Board) (j : ℕ) where
         sent = set (w .sent) j (v .sent);
         requests = set (w .requests) j (v .requests);
         responses = w .responses;
-        ids = w .ids;
+        held = w .held;
         terms = w .terms;
         last = w .last;
       })
@@ -65,7 +65,7 @@ module _ (w : S.Board) (j : ℕ) where
         sent = w .sent;
         requests = w .requests;
         responses = set (w .responses) j (v .responses);
-        ids = w .ids;
+        held = w .held;
         terms = w .terms;
         last = w .last;
       })
@@ -80,7 +80,7 @@ module _ (w : S.Board) (j : ℕ) where
         sent = w .sent;
         requests = w .requests;
         responses = w .responses;
-        ids = w .ids;
+        held = w .held;
         terms = w .terms;
         last = w .last;
       })
@@ -95,7 +95,7 @@ module _ (w : S.Board) (j : ℕ) where
         sent = w .sent;
         requests = set (w .requests) j (v .requests);
         responses = set (w .responses) j (v .responses);
-        ids = w .ids;
+        held = w .held;
         terms = w .terms;
         last = v .last;
       })

@@ -31,4 +31,4 @@ abbrev pub withStream : ℕ → Stream → Body → Body
 withStream n r b = withBoard (b .running) (set (b .core .streams) (n - 1) r) (b .core .claims) b
 
 abbrev pub withLast : Term → Body → Body
-withLast t b = withBoard (b .running) (b .core .streams) (record { ids = b .core .claims .ids; terms = b .core .claims .terms; last = t }) b
+withLast t b = withBoard (b .running) (b .core .streams) (record { ids = b .core .claims .ids; terms = b .core .claims .terms; elected = b .core .claims .elected; last = t }) b

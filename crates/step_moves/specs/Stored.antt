@@ -155,4 +155,4 @@ module _ (b : Body) (ready : Ready b) where
       unfolding holdCore packClaims
       serving-stored-at v = body-is (b .running) _ service-same controllers-same
           (in-streams (storeServing v) _ (serving-stored w j v (wide (w .requests) (fits-core .board .requests-size)) (wide (w .responses) (fits-core .board .responses-size))))
-          (λ i. record { ids = claims-same i .ids; terms = claims-same i .terms; last = record { 0 = v .last } })
+          (λ i. record { ids = claims-same i .ids; terms = claims-same i .terms; elected = claims-same i .elected; last = record { 0 = v .last } })

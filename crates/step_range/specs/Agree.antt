@@ -5,13 +5,14 @@ use mathlib.Core.List.{List, [], _∷_}
 use Prim.Native.Nat.{ℕ, _≤_, _<_}
 use native.Mathlib.Omega.{arith}
 use native.Mathlib.Decide.{decLt}
-use lib.Dec.{T, leb}
+use lib.Dec.{T, leb, eqb}
 use lib.ListN.{length, getD, take, drop}
 use borrow.Author.Tests.{lt-ltb, le-ltb}
 use Rattle.rules.specs.Limits.{mostNodes, topTerm, historyLength}
 use Rattle.rules.specs.State as S
 use Rattle.rules.specs.Queues.{before}
-use Rattle.rules.specs.Range.{all, distinctIds, queueFits, mastershipFits, serviceFits, learnedFits, deskFits, streamFits, boardFits, writeFits, coreFits, inRange}
+use Rattle.rules.specs.Election.{largest, masterOf}
+use Rattle.rules.specs.Range.{all, distinctIds, queueFits, mastershipFits, serviceFits, learnedFits, deskFits, streamFits, heldFits, boardFits, writeFits, coreFits, inRange}
 use Rattle.rules_laws.specs.All.{All}
 use Rattle.rules_laws.specs.InRange.{Within}
 use Rattle.rules_laws.specs.Tests.{Is, is-map, _&_, as-is, is-unless, is-le, is-eq, is-ne, is-within, is-all, is-each, is-distinct-ids}
@@ -19,7 +20,7 @@ use Rattle.rules_laws.specs.Lists.{all-with, all-each}
 use Rattle.any_list.specs.Arrays.{column}
 use Rattle.any_list.specs.Columns.{column-at, length-column}
 use Rattle.step_parts.specs.Hold.{holdMastership}
-use Rattle.step_state.specs.Hold.{eventsAt, learnedAt, saysAt, openAt, sentAt, requestsAt, responsesAt, idAt, termAt, noWrite, holdBoard, holdDesk, holdCore, holdHistory, hold}
+use Rattle.step_state.specs.Hold.{eventsAt, learnedAt, saysAt, openAt, sentAt, requestsAt, responsesAt, idAt, termAt, noWrite, holdHeld, holdBoard, holdDesk, holdCore, holdHistory, hold}
 use Rattle.step_state.specs.Order.{pastController, pastStream}
 use Rattle.step_state.specs.Tidy.{isZero, tidyMastership, tidyController, blankController, tidyStream, blankStream, blankId, blankTerm, tidyCore, tidyHistory, stateFits}
 use Rattle.step_state.specs.declared.Controller.{Controller}
@@ -28,7 +29,7 @@ use Rattle.step_state.specs.declared.Claims.{Claims}
 use Rattle.step_state.specs.declared.State.{State}
 use Rattle.step_bridge.specs.Sized.{SizedController, SizedStream, Sized}
 use Rattle.step_bridge.specs.Rows.{all-any, all-take, taken-at, dropped-at}
-use Rattle.step_range.specs.Tests.{controllerTest, blankControllerTest, controllersTest, streamPlace, streamsTest, idTest, idsTest, historyTest, coreTest, stateTest}
+use Rattle.step_range.specs.Tests.{controllerTest, blankControllerTest, controllersTest, streamPlace, streamsTest, idTest, idsTest, heldTest, historyTest, coreTest, stateTest}
 use Rattle.step_range.specs.Places.{agree, is-then, all-taken, all-dropped, all-mapped, all-unmapped, is-places}
 use Rattle.step_range.specs.First.{ids-first, first-ids}
 use Rattle.step_range.specs.Masterships.{is-service}
@@ -100,10 +101,10 @@ module _ (n : ℕ) (running : Bool) (l : List Stream) (claims : Claims) (sized :
 
   -- One stream, of the columns.
   abbrev streamAt : ℕ → Bool
-  streamAt i = streamFits (getD (board .opens) i false) (getD (board .sent) i 0) (getD (board .requests) i []) (getD (board .responses) i []) (getD (board .ids) i 0) (getD (board .terms) i 0)
+  streamAt i = streamFits (getD (board .opens) i false) (getD (board .sent) i 0) (getD (board .requests) i []) (getD (board .responses) i []) (getD (board .held .ids) i 0) (getD (board .terms) i 0)
 
   stream-at : (i : ℕ) → i < n → streamAt i ≡ streamFits (at i .opened) (at i .sent .0) (requestsAt (at i)) (responsesAt (at i)) (idOf i) (termOf i)
-  unfolding holdBoard
+  unfolding holdBoard holdHeld
   stream-at i h = λ z. streamFits
       (column-at openAt n i l pastStream h z)
       (column-at sentAt n i l pastStream h z)
@@ -170,8 +171,8 @@ module _ (n : ℕ) (running : Bool) (l : List Stream) (claims : Claims) (sized :
 
   -- ---- the ids
 
-  is-ids : n ≤ mostNodes → Is (idsTest n claims) (T (distinctIds (board .ids)))
-  unfolding idsTest idTest holdBoard
+  is-ids : n ≤ mostNodes → Is (idsTest n claims) (T (distinctIds (column idAt n (claims .ids))))
+  unfolding idsTest idTest
   is-ids few =
       let held = column idAt n (claims .ids) in
       let count = length-column idAt n (claims .ids) (omega arith) in
@@ -180,6 +181,15 @@ module _ (n : ℕ) (running : Bool) (l : List Stream) (claims : Claims) (sized :
       let j : i < n = omega arith in let e = column-at idAt n i (claims .ids) (record { 0 = 0 }) j in rw e (f i j (λ o. z (e ∙ o))))))
       (λ t i j z. let e = column-at idAt n i (claims .ids) (record { 0 = 0 }) j in rw e at (ids-first held (is-distinct-ids held .to t) i (omega arith) (λ o. z (sym e ∙ o))))
       (is-each (λ i. is-unless (isZero (idOf i)) (is-ne (idOf i) 0) (is-eq (before (idOf i) held) i)) n)
+
+  is-held : n ≤ mostNodes → Is (heldTest n claims) (T (heldFits (holdHeld n claims)))
+  unfolding heldTest heldFits holdHeld
+  is-held few =
+      let held = column idAt n (claims .ids) in
+      let master = as-is (eqb (claims .elected .master) (masterOf held)) in
+      let top = as-is (eqb (claims .elected .largest .0) (largest held)) in
+      let three = as-is (distinctIds held) & master & top in
+      is-map (λ t. three .from ((t .1, t .0 .0), t .0 .1)) (λ t. let u = three .to t in ((u .0 .1, u .1), u .0 .0)) (master & top & is-ids few)
 
 -- ---- the state
 
@@ -210,7 +220,7 @@ module _ (s : State) (k : Sized s) where
     rows : All (ControllerFits n controllers (k .controllers) (k .controller-rows)) (take n controllers)
     blank-rows : All (λ r. T (blankController r)) (drop n controllers)
     board : Streams n (s .running) streams claims (k .streams) (k .stream-rows) (k .ids) (k .terms)
-    ids : T (distinctIds (column idAt n (claims .ids)))
+    held : T (heldFits (holdHeld n claims))
     last : claims .last .0 ≤ topTerm
     tidy-history : T (tidyHistory (s .history))
     history : T (listFits historyLength (writeFits n) (holdHistory (s .history)))
@@ -230,24 +240,24 @@ module _ (s : State) (k : Sized s) where
         rows = a .1 .0;
         blank-rows = a .1 .1;
         board = c .0 .1;
-        ids = c .1;
+        held = c .1;
         last = a .0 .0;
         tidy-history = t .1 .0;
         history = t .1 .1;
       })
-      (λ f. ((f .count, ((((f .last, (f .tidy-service, f .service)), (f .rows, f .blank-rows)), f .board), f .ids)), (f .tidy-history, f .history)))
+      (λ f. ((f .count, ((((f .last, (f .tidy-service, f .service)), (f .rows, f .blank-rows)), f .board), f .held)), (f .tidy-history, f .history)))
       (is-then (is-within 1 mostNodes n) (λ w. let few : n ≤ mostNodes = w .upper in
       is-le (claims .last .0) topTerm & is-service (s .core .service) (k .service) n & is-controllers n controllers (k .controllers) (k .controller-rows)
       & is-streams n (s .running) streams claims (k .streams) (k .stream-rows) (k .ids) (k .terms) few
-      & is-ids n (s .running) streams claims (k .streams) (k .stream-rows) (k .ids) (k .terms) few)
+      & is-held n (s .running) streams claims (k .streams) (k .stream-rows) (k .ids) (k .terms) few)
       & is-history)
 
   abbrev At : ℕ → Type 0
   At i = T (streamAt n (s .running) streams claims (k .streams) (k .stream-rows) (k .ids) (k .terms) i)
 
   is-board : n ≤ mostNodes → Is (boardFits n (s .running) (holdBoard n streams claims))
-      (((((i : ℕ) → i < n → At i) × T (distinctIds (column idAt n (claims .ids)))) × All (λ o. T (s .running || not o)) opens) × (claims .last .0 ≤ topTerm))
-  unfolding boardFits holdBoard
+      (((((i : ℕ) → i < n → At i) × T (heldFits (holdHeld n claims))) × All (λ o. T (s .running || not o)) opens) × (claims .last .0 ≤ topTerm))
+  unfolding boardFits holdBoard holdHeld
   is-board few =
       let a = k .streams in
       let b = k .ids in
@@ -260,13 +270,13 @@ module _ (s : State) (k : Sized s) where
       & sure (is-eq (length (column idAt n (claims .ids))) n) (length-column idAt n (claims .ids) (omega arith))
       & sure (is-eq (length (column termAt n (claims .terms))) n) (length-column termAt n (claims .terms) (omega arith))
       & is-each (λ i. as-is (streamAt n (s .running) streams claims (k .streams) (k .stream-rows) (k .ids) (k .terms) i)) n
-      & as-is (distinctIds (column idAt n (claims .ids)))
+      & as-is (heldFits (holdHeld n claims))
       & none-open (s .running) opens
       & is-le (claims .last .0) topTerm)
 
   is-core : n ≤ mostNodes → Is (coreFits n (s .running) (holdCore n (s .core)))
       (((T (serviceFits n (holdMastership (s .core .service))) × T (all (queueFits (mastershipFits n)) (column eventsAt n controllers))) × T (all (learnedFits n) (column learnedAt n controllers)))
-      × (((((i : ℕ) → i < n → At i) × T (distinctIds (column idAt n (claims .ids)))) × All (λ o. T (s .running || not o)) opens) × (claims .last .0 ≤ topTerm)))
+      × (((((i : ℕ) → i < n → At i) × T (heldFits (holdHeld n claims))) × All (λ o. T (s .running || not o)) opens) × (claims .last .0 ≤ topTerm)))
   unfolding coreFits deskFits holdCore holdDesk
   is-core few =
       let a = k .controllers in
@@ -306,14 +316,14 @@ module _ (s : State) (k : Sized s) where
         rows = rows .0;
         blank-rows = rows .1;
         board = record { tidy = y .0 .0 .0 .1; fit = c .1 .0 .0 .0; stopped = c .1 .0 .1; blank = y .0 .0 .1; no-ids = y .0 .1; no-terms = y .1 };
-        ids = c .1 .0 .0 .1;
+        held = c .1 .0 .0 .1;
         last = c .1 .1;
         tidy-history = t .0 .1;
         history = listed .from (t .1 .0 .1, t .1 .1);
       })
       (λ f. let m = four .to (columns .from (f .rows, f .blank-rows)) in let q = f .board in let h = listed .to (f .history) in (
         (((((((f .tidy-service, m .0 .0 .0), m .1), q .tidy), q .blank), q .no-ids), q .no-terms), f .tidy-history),
-        (((f .count, (((f .service, m .0 .0 .1), m .0 .1), (((q .fit, f .ids), q .stopped), f .last))), h .0), h .1),
+        (((f .count, (((f .service, m .0 .0 .1), m .0 .1), (((q .fit, f .held), q .stopped), f .last))), h .0), h .1),
       ))
       (is-tidy & as-is (tidyHistory (s .history))
       & (is-then (is-within 1 mostNodes n) (λ v. is-core (v .upper)) & as-is (leb (length w) historyLength) & as-is (all (writeFits n) w)))

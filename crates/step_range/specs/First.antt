@@ -1,5 +1,5 @@
 -- Distinct numbers: each stands at its first place. Assumes nothing.
-use mathlib.Core.Path.{_≡_, refl, sym, ap, _∙_}
+use mathlib.Core.Path.{_≡_, sym, ap, _∙_}
 use mathlib.Core.Logic.{_≢_}
 use mathlib.Core.List.{List, [], _∷_}
 use Prim.Native.Nat.{ℕ, zero, suc, _<_}
@@ -7,20 +7,10 @@ use native.Mathlib.Nat.{le-of-suc-le-suc}
 use native.Mathlib.Omega.{arith}
 use native.Mathlib.Decide.{ℕ-discrete}
 use lib.ListN.{length, getD}
-use borrow.Author.Tests.{eq-eqb, ne-eqb}
 use Rattle.rules.specs.Queues.{before}
 use Rattle.rules_laws.specs.All.{All}
 use Rattle.rules_laws.specs.InRange.{Absent, Distinct, DistinctIds}
-
--- ---- one element more in front
-
-before-first : (x : ℕ) (l : List ℕ) → before x (x ∷ l) ≡ 0
-unfolding before
-before-first x l = simp (eq-eqb x x refl)
-
-before-later : (y x : ℕ) (l : List ℕ) → y ≢ x → before y (x ∷ l) ≡ suc (before y l)
-unfolding before
-before-later y x l h = simp (ne-eqb y x h)
+use Rattle.rules_laws.specs.Lists.{before-first, before-later}
 
 absent-at : (x : ℕ) (l : List ℕ) (i : ℕ) → Absent x l → i < length l → getD l i 0 ≢ x
 absent-at x [] i a h = absurd (omega arith)

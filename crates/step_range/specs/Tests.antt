@@ -6,6 +6,7 @@ use lib.Dec.{leb, ltb, eqb}
 use lib.ListN.{getD}
 use Rattle.rules.specs.Limits.{mostNodes, topTerm, topId, historyLength}
 use Rattle.rules.specs.Queues.{before}
+use Rattle.rules.specs.Election.{largest, masterOf}
 use Rattle.rules.specs.Range.{each, within, writeFits}
 use Rattle.any_list.specs.Arrays.{column}
 use Rattle.step_parts.specs.Hold.{holdWrite}
@@ -61,6 +62,12 @@ idPlace count claims i = idTest (getD (claims .ids) i (record { 0 = 0 }) .0) (co
 unfoldable pub idsTest : ℕ → Claims → Bool
 idsTest count claims = each count (idPlace count claims)
 
+-- What is kept with the ids is what they give, and they are distinct.
+unfoldable pub heldTest : ℕ → Claims → Bool
+heldTest count claims =
+    let ids = column idAt count (claims .ids) in
+    eqb (claims .elected .master) (masterOf ids) && eqb (claims .elected .largest .0) (largest ids) && idsTest count claims
+
 -- ---- the state
 
 abbrev pub writeTest : ℕ → Write → Bool
@@ -72,7 +79,7 @@ historyTest count h = placesTest historyLength (writeTest count) blankWrite noWr
 unfoldable pub coreTest : ℕ → Bool → Core → Bool
 coreTest count running c =
     leb (c .claims .last .0) topTerm && serviceTest count (c .service) && controllersTest count (c .controllers) && streamsTest count running (c .streams) (c .claims)
-    && idsTest count (c .claims)
+    && heldTest count (c .claims)
 
 unfoldable pub stateTest : State → Bool
 stateTest s = within 1 mostNodes (s .count) && coreTest (s .count) (s .running) (s .core) && historyTest (s .count) (s .history)

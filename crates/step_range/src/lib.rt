@@ -24,7 +24,7 @@ fn core_fits(count: u8, running: bool, core: Core) -> bool
     if step_range_queues::masterships::service_fits(count, service) {
         if controllers::controllers_fit(count, core) {
             if streams::streams_fit(count, running, core) {
-                return streams::ids_fit(count, claims);
+                return streams::held_fits(count, claims);
             }
         }
     }

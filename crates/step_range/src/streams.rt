@@ -2,7 +2,7 @@
 ghost use mathlib.Core.Path.{_≡_};
 ghost use Prim.Native.Nat.{_≤_};
 ghost use Rattle.rules.specs.Limits.{mostNodes};
-ghost use Rattle.step_range.specs.Tests.{shutTest, streamTest, streamsTest, idsTest};
+ghost use Rattle.step_range.specs.Tests.{shutTest, streamTest, streamsTest, idsTest, heldTest};
 use step_parts::ElectionId;
 use step_parts::Term;
 use step_state::Claims;
@@ -77,7 +77,7 @@ pub fn streams_fit(count: u8, running: bool, core: Core) -> bool
 }
 
 // Ids above 0 are distinct: each stands at its first place.
-pub fn ids_fit(count: u8, claims: Claims) -> bool
+fn ids_fit(count: u8, claims: Claims) -> bool
     requires { ⌜ count ≤ mostNodes ⌝ }
     ensures { λ r. ⌜ r ≡ idsTest count claims ⌝ }
 {
@@ -96,4 +96,21 @@ pub fn ids_fit(count: u8, claims: Claims) -> bool
         i += 1;
     }
     true
+}
+
+// What is kept with the ids is what one pass over them finds, and they are distinct.
+pub fn held_fits(count: u8, claims: Claims) -> bool
+    requires { ⌜ count ≤ mostNodes ⌝ }
+    ensures { λ r. ⌜ r ≡ heldTest count claims ⌝ }
+{
+    let ids = claims.ids;
+    let found = step_state::elect(count, ids);
+    let kept = claims.elected;
+    if kept.master != found.master {
+        return false;
+    }
+    if kept.largest.0 != found.largest.0 {
+        return false;
+    }
+    ids_fit(count, claims)
 }

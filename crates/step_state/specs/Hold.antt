@@ -13,6 +13,7 @@ use Rattle.step_parts.specs.declared.Write.{Write}
 use Rattle.step_parts.specs.Hold.{holdMastership, packMastership, holdEvents, packEvents, holdRequests, packRequests, holdResponses, packResponses, holdWrite, packWrite}
 use Rattle.step_state.specs.declared.Controller.{Controller}
 use Rattle.step_state.specs.declared.Stream.{Stream}
+use Rattle.step_state.specs.declared.Elected.{Elected}
 use Rattle.step_state.specs.declared.Claims.{Claims}
 use Rattle.step_state.specs.declared.Core.{Core}
 use Rattle.step_state.specs.declared.History.{History}
@@ -50,13 +51,20 @@ termAt t = t .0
 unfoldable pub holdDesk : ℕ → Mastership → List Controller → S.Desk
 holdDesk count service controllers = record { service = holdMastership service; events = column eventsAt count controllers }
 
+unfoldable pub holdHeld : ℕ → Claims → S.Held
+holdHeld count claims = record {
+  ids = column idAt count (claims .ids);
+  master = claims .elected .master;
+  largest = claims .elected .largest .0;
+}
+
 unfoldable pub holdBoard : ℕ → List Stream → Claims → S.Board
 holdBoard count streams claims = record {
   opens = column openAt count streams;
   sent = column sentAt count streams;
   requests = column requestsAt count streams;
   responses = column responsesAt count streams;
-  ids = column idAt count (claims .ids);
+  held = holdHeld count claims;
   terms = column termAt count (claims .terms);
   last = claims .last .0;
 }
@@ -111,10 +119,14 @@ idRow ids i = record { 0 = getD ids i 0 }
 abbrev pub termRow : List ℕ → ℕ → Term
 termRow terms i = record { 0 = getD terms i 0 }
 
+abbrev pub packElected : S.Held → Elected
+packElected h = record { master = h .master; largest = record { 0 = h .largest } }
+
 unfoldable pub packClaims : S.Board → Claims
 packClaims w = record {
-  ids = table mostNodes (idRow (w .ids));
+  ids = table mostNodes (idRow (w .held .ids));
   terms = table mostNodes (termRow (w .terms));
+  elected = packElected (w .held);
   last = record { 0 = w .last };
 }
 

@@ -5,10 +5,11 @@ use mathlib.Core.List.{List, []}
 use Prim.Native.Nat.{ℕ, _≤_, _<_}
 use lib.ListN.{getD}
 use Rattle.rules.specs.Limits.{mostNodes}
+use Rattle.rules.specs.Election.{elected}
 use Rattle.any_list.specs.Arrays.{column}
 use Rattle.step_parts.specs.Hold.{pastMastership}
 use Rattle.step_parts.specs.Ordered.{OrderedMastership, OrderedEvents, OrderedRequests, OrderedResponses}
-use Rattle.step_state.specs.Hold.{eventsAt, learnedAt, saysAt, holdBoard, packControllers, packStreams, packClaims}
+use Rattle.step_state.specs.Hold.{eventsAt, learnedAt, saysAt, idAt, holdHeld, holdBoard, packControllers, packStreams, packClaims}
 use Rattle.step_state.specs.declared.Controller.{Controller}
 use Rattle.step_state.specs.declared.Stream.{Stream}
 use Rattle.step_state.specs.declared.Claims.{Claims}
@@ -34,8 +35,10 @@ pub record OrderedControllers (count : ℕ) (controllers : List Controller) : Ty
   pub rows : (i : ℕ) → i < count → OrderedController (getD controllers i pastController)
   pub same : packControllers (column eventsAt count controllers) (column learnedAt count controllers) (column saysAt count controllers) ≡ controllers
 
+-- The same of the streams, and of what the switch holds: what is kept with the ids is what they give.
 pub record OrderedBoard (count : ℕ) (streams : List Stream) (claims : Claims) : Type 0 where
   pub few : count ≤ mostNodes
   pub rows : (i : ℕ) → i < count → OrderedStream (getD streams i pastStream)
+  pub kept : holdHeld count claims ≡ elected (column idAt count (claims .ids))
   pub streams-same : packStreams (holdBoard count streams claims) ≡ streams
   pub claims-same : packClaims (holdBoard count streams claims) ≡ claims

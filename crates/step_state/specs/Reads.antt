@@ -5,9 +5,8 @@ use Prim.Native.Nat.{ℕ, _-_}
 use lib.ListN.{getD}
 use Rattle.rules.specs.Part.{Out, refuse, done}
 use Rattle.rules.specs.Parts.{Inbox, Sender, Receiver, Linked, Told, Served, Power}
-use Rattle.any_list.specs.Arrays.{column}
 use Rattle.step_parts.specs.Hold.{holdMastership, holdEvents, holdRequests, holdResponses}
-use Rattle.step_state.specs.Hold.{holdBoard, idAt, termAt}
+use Rattle.step_state.specs.Hold.{holdBoard}
 use Rattle.step_state.specs.declared.Controller.{Controller}
 use Rattle.step_state.specs.declared.Stream.{Stream}
 use Rattle.step_state.specs.declared.Claims.{Claims}
@@ -51,18 +50,19 @@ toldOf count n running streams claims = let w = holdBoard count streams claims i
   sent = getD (w .sent) (n - 1) 0;
   requests = getD (w .requests) (n - 1) [];
   responses = w .responses;
-  ids = w .ids;
+  held = w .held;
   term = getD (w .terms) (n - 1) 0;
 }
 
-abbrev pub servedOf : ℕ → ℕ → Bool → Stream → Claims → ℕ → Served
-servedOf count n running s claims writes = record {
+abbrev pub servedOf : ℕ → Bool → Stream → Claims → ℕ → Served
+servedOf n running s claims writes = record {
   running = running;
   isOpen = s .opened;
   requests = holdRequests (s .requests);
   responses = holdResponses (s .responses);
-  ids = column idAt count (claims .ids);
-  term = getD (column termAt count (claims .terms)) (n - 1) 0;
+  id = getD (claims .ids) (n - 1) (record { 0 = 0 }) .0;
+  master = claims .elected .master;
+  term = getD (claims .terms) (n - 1) (record { 0 = 0 }) .0;
   last = claims .last .0;
   writes = writes;
 }

@@ -44,7 +44,15 @@ closedStream = packStream false 0 [] []
 
 -- 12: no stream is open, the switch holds nothing of any node, and this is the last accepted term
 abbrev pub bare : ℕ → S.Board
-bare last = record { opens = []; sent = []; requests = []; responses = []; ids = []; terms = []; last = last }
+bare last = record {
+  opens = [];
+  sent = [];
+  requests = [];
+  responses = [];
+  held = record { ids = []; master = 0; largest = 0 };
+  terms = [];
+  last = last;
+}
 
 -- 9, 10
 unfoldable pub storeTelling : ℕ → Telling → ℕ → List Stream → Claims → Board

@@ -6,6 +6,7 @@ use Prim.Native.Nat.{ℕ}
 use lib.ListN.{set}
 use Rattle.rules.specs.State as S
 use Rattle.rules.specs.Range.{all, inRange}
+use Rattle.rules.specs.Election.{elected}
 use Rattle.rules.specs.Step.{fresh}
 use Rattle.step_parts.specs.Hold.{packMastership, packRequest, packResponse, packWrite}
 use Rattle.step_state.specs.Hold.{packControllers, packStreams, packClaims, packCore, packHistory, hold, represent, packController, packStream}
@@ -78,14 +79,14 @@ abbrev pub inLastRows : List State
 inLastRows =
     controllerIs 7 (packController [] S.blank true)
     ∷ streamIs 7 (packStream true 0 [] [])
-    ∷ claimsAre (λ c. record { ids = set (c .ids) 7 (record { 0 = 1 }); terms = c .terms; last = c .last })
-    ∷ claimsAre (λ c. record { ids = c .ids; terms = set (c .terms) 7 (record { 0 = 1 }); last = c .last })
+    ∷ claimsAre (λ c. record { ids = set (c .ids) 7 (record { 0 = 1 }); terms = c .terms; elected = c .elected; last = c .last })
+    ∷ claimsAre (λ c. record { ids = c .ids; terms = set (c .terms) 7 (record { 0 = 1 }); elected = c .elected; last = c .last })
     ∷ []
 
 -- ---- none of them is in range
 
 unfoldable opened : ℕ
-unfolding all fresh packControllers packStreams packClaims packCore packHistory represent noMessage noStatus blankMastership blankRequest blankResponse tidyMastership tidyRequest tidyResponse tidyPlaces tidyController tidyStream blankController blankStream tidyCore blankWrite tidyHistory
+unfolding all elected fresh packControllers packStreams packClaims packCore packHistory represent noMessage noStatus blankMastership blankRequest blankResponse tidyMastership tidyRequest tidyResponse tidyPlaces tidyController tidyStream blankController blankStream tidyCore blankWrite tidyHistory
 opened = 0
 
 abbrev pub isTidy : State → Bool

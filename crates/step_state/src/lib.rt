@@ -3,9 +3,10 @@ ghost use mathlib.Core.Path.{_≡_};
 ghost use Prim.Native.Nat.{ℕ, _≤_};
 ghost use Rattle.rules.specs.Limits.{mostNodes};
 ghost use Rattle.rules.specs.Queues.{before};
+ghost use Rattle.rules.specs.Election.{elected};
 ghost use Rattle.rules.specs.Step.{fresh};
 ghost use Rattle.any_list.specs.Arrays.{column};
-ghost use Rattle.step_state.specs.Hold.{idAt, packCore};
+ghost use Rattle.step_state.specs.Hold.{idAt, packElected, packCore};
 ghost use Rattle.step_state.specs.Stores.{packBoard, closedStream, bare};
 use step_parts::ElectionId;
 use step_parts::EventQueue;
@@ -30,10 +31,17 @@ pub struct Stream {
     pub responses: ResponseQueue,
 }
 
-// What the switch holds: an election id and a term for each node, and the last accepted term.
+// Whom ids elect: the switch's master, 0 for none, and the largest id.
+pub struct Elected {
+    pub master: u8,
+    pub largest: ElectionId,
+}
+
+// What the switch holds: an election id and a term for each node, whom the ids elect, and the last accepted term.
 pub struct Claims {
     pub ids: [ElectionId; 8],
     pub terms: [Term; 8],
+    pub elected: Elected,
     pub last: Term,
 }
 
@@ -105,6 +113,29 @@ pub fn id_place(count: u8, id: ElectionId, ids: [ElectionId; 8]) -> u8
     count
 }
 
+// The election: one pass over the ids.
+pub fn elect(count: u8, ids: [ElectionId; 8]) -> Elected
+    requires { ⌜ count ≤ mostNodes ⌝ }
+    ensures { λ r. ⌜ r ≡ packElected (elected (column idAt count ids)) ⌝ }
+{
+    let mut master: u8 = 0;
+    let mut largest: u32 = 0;
+    let mut i: u8 = 0;
+    while i < count {
+        let at = i as usize;
+        let id = ids[at];
+        i += 1;
+        if largest < id.0 {
+            largest = id.0;
+            master = i;
+        }
+    }
+    Elected {
+        master: master,
+        largest: ElectionId(largest),
+    }
+}
+
 // A closed stream.
 pub fn closed_stream() -> Stream
     ensures { λ r. ⌜ r ≡ closedStream ⌝ }
@@ -124,9 +155,14 @@ pub fn blank_board(last: Term) -> Board
     ensures { λ r. ⌜ r ≡ packBoard (bare (last .0)) ⌝ }
 {
     let stream = closed_stream();
+    let nobody = Elected {
+        master: 0,
+        largest: ElectionId(0),
+    };
     let claims = Claims {
         ids: [ElectionId(0); 8],
         terms: [Term(0); 8],
+        elected: nobody,
         last: last,
     };
     Board {

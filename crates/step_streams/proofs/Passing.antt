@@ -2,22 +2,9 @@
 use mathlib.Core.Path.{_≡_, refl}
 use mathlib.Core.Bool.{Bool, true, not, _&&_, _||_}
 use mathlib.Core.List.{List, [], _∷_}
-use Prim.Native.Nat.{ℕ, max}
 use Rattle.rules.specs.Queues.{room}
-use Rattle.rules.specs.Election.{largest, roomOpen}
+use Rattle.rules.specs.Election.{roomOpen}
 use Rattle.rules.specs.State as S
-
--- ---- the largest
-
-pub largest-cons : (x : ℕ) (l : List ℕ) → largest (x ∷ l) ≡ max x (largest l)
-unfolding largest
-largest-cons x l = refl
-
-pub largest-none : largest [] ≡ 0
-unfolding largest
-largest-none = refl
-
--- ---- room
 
 pub room-cons : (o : Bool) (os : List Bool) (q : List S.Response) (qs : List (List S.Response)) → roomOpen (o ∷ os) (q ∷ qs) ≡ ((not o || room q) && roomOpen os qs)
 unfolding roomOpen

@@ -5,6 +5,7 @@ use Prim.Native.Nat.{ℕ, _+_}
 use lib.ListN.{getD}
 use Rattle.rules.specs.Queues.{first, empty}
 use Rattle.rules.specs.State as S
+use Rattle.rules.specs.Election.{statusFor}
 use Rattle.rules.specs.Rules.{noRequest}
 use Rattle.step_parts.specs.Hold.{holdRequests, packMessage, packResponse}
 use Rattle.step_parts.specs.Queues.{popRequest, pushResponse}
@@ -12,7 +13,12 @@ use Rattle.step_parts.specs.declared.Message.{Message}
 use Rattle.step_parts.specs.declared.Message.the-variants as M
 use Rattle.step_parts.specs.declared.Response.{Response}
 use Rattle.step_state.specs.Order.{pastStream}
+use Rattle.step_state.specs.declared.Elected.{Elected}
 use Rattle.step_state.specs.declared.Stream.{Stream}
+
+-- What node n is told of whom the ids elect: `news`, of the struct.
+abbrev pub newsOf : Elected → ℕ → S.Response
+newsOf e n = record { message = S.update; status = statusFor (e .master) n; id = e .largest .0 }
 
 -- The response goes last.
 abbrev pub responded : Response → Stream → Stream

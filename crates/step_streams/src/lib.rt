@@ -1,63 +1,55 @@
-// The switch's master, and its streams: which are open, what they are told, and what waits on them.
+// Whom a changed id elects, and the switch's streams: which are open, what they are told, and what waits on them.
 ghost use mathlib.Core.Path.{_≡_};
-ghost use mathlib.Core.List.{List};
-ghost use Prim.Native.Nat.{ℕ, _≤_};
+ghost use Prim.Native.Nat.{_≤_};
 ghost use Rattle.rules.specs.Limits.{mostNodes};
 ghost use Rattle.rules.specs.Queues.{first};
-ghost use Rattle.rules.specs.Election.{largest, masterOf, taken, statusFor, news, roomOpen};
+ghost use Rattle.rules.specs.Election.{elected, holding, taken, statusFor, roomOpen};
 ghost use Rattle.rules.specs.Open.{wordOf, openNumber};
-ghost use Rattle.rules.specs.Rules.{changes, noRequest};
+ghost use Rattle.rules.specs.Rules.{noRequest};
 ghost use Rattle.any_list.specs.Arrays.{column, table};
 ghost use Rattle.step_parts.specs.Hold.{packStatus, packRequest, packResponse, holdRequests};
-ghost use Rattle.step_state.specs.Hold.{idAt, openAt, responsesAt};
+ghost use Rattle.step_state.specs.Hold.{idAt, openAt, responsesAt, packElected};
 ghost use Rattle.step_state.specs.Order.{OrderedStream};
 ghost use Rattle.step_streams.specs.Asks.{IsNode, OrderedRows, HasHead};
-ghost use Rattle.step_streams.specs.Does.{responded, withoutHead, tellRow, waiting};
+ghost use Rattle.step_streams.specs.Does.{newsOf, responded, withoutHead, tellRow, waiting};
 use step_parts::ElectionId;
 use step_parts::Message;
 use step_parts::Request;
 use step_parts::Response;
 use step_parts::Status;
+use step_state::Elected;
 use step_state::Stream;
 
-// The largest id that is held, 0 if there is none.
-fn largest_id(count: u8, ids: [ElectionId; 8]) -> ElectionId
-    requires { ⌜ count ≤ mostNodes ⌝ }
-    ensures { λ r. ⌜ r .0 ≡ largest (column idAt count ids) ⌝ }
+// Whom the ids elect once the node's is this one. A higher id than all wins; the master that asks for the id it has, or another node for a lower one,
+// changes nothing. So the ids are passed over only where the master's own falls, and where nobody has one.
+pub fn elected_with(
+    count: u8,
+    node: u8,
+    id: ElectionId,
+    ids: [ElectionId; 8],
+    now: Elected,
+) -> Elected
+    requires { ⌜ IsNode count node × (now ≡ packElected (elected (column idAt count ids))) ⌝ }
+    ensures { λ r. ⌜ r ≡ packElected (holding node (id .0) (elected (column idAt count ids))) ⌝ }
 {
-    let n = count as usize;
-    let mut top: u32 = 0;
-    let mut i: usize = 0;
-    while i < n {
-        let id = ids[i];
-        if top < id.0 {
-            top = id.0;
+    let largest = now.largest;
+    if largest.0 < id.0 {
+        return Elected {
+            master: node,
+            largest: id,
+        };
+    }
+    if now.master == node {
+        if id.0 == largest.0 {
+            return now;
         }
-        i += 1;
+    } else if id.0 < largest.0 {
+        return now;
     }
-    ElectionId(top)
-}
-
-// The switch's master: the node with the largest id above 0, or 0 for none.
-pub fn master_of(count: u8, ids: [ElectionId; 8]) -> u8
-    requires { ⌜ count ≤ mostNodes ⌝ }
-    ensures { λ r. ⌜ r ≡ masterOf (column idAt count ids) ⌝ }
-{
-    let top = largest_id(count, ids);
-    if top.0 == 0 {
-        return 0;
-    }
-    step_state::id_place(count, top, ids) + 1
-}
-
-// Whether the switch's master is another one after the ids have changed.
-pub fn master_changes(count: u8, ids: [ElectionId; 8], next: [ElectionId; 8]) -> bool
-    requires { ⌜ count ≤ mostNodes ⌝ }
-    ensures { λ r. ⌜ r ≡ changes (column idAt count ids) (column idAt count next) ⌝ }
-{
-    let old = master_of(count, ids);
-    let new = master_of(count, next);
-    old != new
+    let at = (node - 1) as usize;
+    let mut next = ids;
+    next[at] = id;
+    step_state::elect(count, next)
 }
 
 // Whether another node holds the id.
@@ -99,7 +91,7 @@ pub fn open_number(count: u8, streams: [Stream; 8]) -> u32
 
 // The status of an update response: every such response gets it here.
 fn status_for(master: u8, node: u8) -> Status
-    ensures { λ r. ⌜ ((ids : List ℕ) → masterOf ids ≡ master → r ≡ packStatus (statusFor ids node)) ⌝ }
+    ensures { λ r. ⌜ r ≡ packStatus (statusFor master node) ⌝ }
 {
     if master == 0 {
         return Status::NotFound;
@@ -110,15 +102,16 @@ fn status_for(master: u8, node: u8) -> Status
     Status::AlreadyExists
 }
 
-// What a node is told of the switch's master and the largest id.
-fn news_for(node: u8, master: u8, top: ElectionId) -> Response
-    ensures { λ r. ⌜ ((ids : List ℕ) → masterOf ids ≡ master → largest ids ≡ top .0 → r ≡ packResponse (news ids node)) ⌝ }
+// What a node is told of whom the ids elect.
+fn news_for(node: u8, elected: Elected) -> Response
+    ensures { λ r. ⌜ r ≡ packResponse (newsOf elected node) ⌝ }
 {
-    let status = status_for(master, node);
+    let status = status_for(elected.master, node);
+    let largest = elected.largest;
     Response {
         message: Message::Update,
         status: status,
-        id: top,
+        id: largest,
     }
 }
 
@@ -133,11 +126,10 @@ pub fn respond(stream: Stream, response: Response) -> Stream
 }
 
 // The node alone is told.
-pub fn tell_one(count: u8, node: u8, ids: [ElectionId; 8], stream: Stream) -> Stream
-    requires { ⌜ count ≤ mostNodes ⌝ }
-    ensures { λ r. ⌜ r ≡ responded (packResponse (news (column idAt count ids) node)) stream ⌝ }
+pub fn tell_one(node: u8, elected: Elected, stream: Stream) -> Stream
+    ensures { λ r. ⌜ r ≡ responded (packResponse (newsOf elected node)) stream ⌝ }
 {
-    let response = news_for(node, master_of(count, ids), largest_id(count, ids));
+    let response = news_for(node, elected);
     respond(stream, response)
 }
 
@@ -161,18 +153,16 @@ pub fn tell_room(count: u8, streams: [Stream; 8]) -> bool
 }
 
 // Every open stream is told, from the lowest node on.
-pub fn tell_all(count: u8, ids: [ElectionId; 8], streams: [Stream; 8]) -> [Stream; 8]
+pub fn tell_all(count: u8, elected: Elected, streams: [Stream; 8]) -> [Stream; 8]
     requires { ⌜ count ≤ mostNodes ⌝ }
-    ensures { λ r. ⌜ r ≡ table mostNodes (tellRow (column openAt count streams) (news (column idAt count ids)) streams) ⌝ }
+    ensures { λ r. ⌜ r ≡ table mostNodes (tellRow (column openAt count streams) (newsOf elected) streams) ⌝ }
 {
-    let top = largest_id(count, ids);
-    let master = master_of(count, ids);
     let mut left = open_word(count, streams);
     let mut next = streams;
     while left != 0 {
         let i = u32::trailing_zeros(left) as usize;
         let stream = next[i];
-        let response = news_for((i + 1) as u8, master, top);
+        let response = news_for((i + 1) as u8, elected);
         next[i] = respond(stream, response);
         left = left & (left - 1);
     }

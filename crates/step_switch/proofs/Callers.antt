@@ -7,7 +7,7 @@ use lib.ListN.{getD}
 use Rattle.rules.specs.Codes.{stepDone}
 use Rattle.rules.specs.Queues.{first, empty}
 use Rattle.rules.specs.Part.{decide}
-use Rattle.rules.specs.Rules.{noRequest, isUpdate, idsLeft, opensLeft, responsesLeft, idsWith, closed, updated, closeRoom, closeRule, handleUpdateRule}
+use Rattle.rules.specs.Rules.{noRequest, isUpdate, heldLeft, opensLeft, responsesLeft, heldWith, closed, updated, closeRoom, closeRule, handleUpdateRule}
 use Rattle.step_state.specs.Reads.{answerOf, toldOf}
 use Rattle.step_state.specs.declared.Stream.{Stream}
 use Rattle.step_state.specs.declared.Claims.{Claims}
@@ -17,11 +17,11 @@ use Rattle.step_switch.specs.Asks.{AtBoard, Tells}
 
 module _ (count n : ℕ) (running : Bool) (streams : List Stream) (claims : Claims) where
   pub close-tells : AtBoard count n streams claims → answerOf (decide (closeRule n) (toldOf count n running streams claims)) ≡ stepDone → Tells closeRule count n streams claims
-  unfolding decide closeRule closeRoom closed idsLeft opensLeft responsesLeft
+  unfolding decide closeRule closeRoom closed heldLeft opensLeft responsesLeft
   close-tells h e = record { at = h; goes = e }
 
   pub close-effect : closeRule n .effect (toldOf count n true streams claims) ≡ closeRule n .effect (toldOf count n running streams claims)
-  unfolding closeRule closed idsLeft opensLeft responsesLeft
+  unfolding closeRule closed heldLeft opensLeft responsesLeft
   close-effect = refl
 
   pub update-tells : AtBoard count n streams claims → answerOf (decide (handleUpdateRule n) (toldOf count n running streams claims)) ≡ stepDone → Tells handleUpdateRule count n streams claims
@@ -32,5 +32,5 @@ module _ (count n : ℕ) (running : Bool) (streams : List Stream) (claims : Clai
       record { at = h; goes = ap (λ (b : Bool). answerOf (decide (handleUpdateRule n) (toldOf count n b streams claims))) (sym runs) ∙ e }
 
   pub update-effect : handleUpdateRule n .effect (toldOf count n true streams claims) ≡ handleUpdateRule n .effect (toldOf count n running streams claims)
-  unfolding handleUpdateRule closed idsLeft opensLeft responsesLeft updated idsWith
+  unfolding handleUpdateRule closed heldLeft opensLeft responsesLeft updated heldWith
   update-effect = refl

@@ -5,6 +5,7 @@ use mathlib.Core.List.{List, []}
 use Prim.Native.Nat.{ℕ, _-_, _≤_, _<_}
 use native.Mathlib.Decide.{ℕ-discrete}
 use native.Mathlib.Omega.{arith}
+use lib.Dec.{eqb}
 use lib.ListN.{length, getD, set, length-set}
 use lib.Seq.{getD-set-same, getD-set-other}
 use Rattle.rules.specs.Limits.{mostNodes}
@@ -12,13 +13,13 @@ use Rattle.rules.specs.Codes.{stepDone}
 use Rattle.rules.specs.State as S
 use Rattle.rules.specs.Part.{decide}
 use Rattle.rules.specs.Parts.{Told}
-use Rattle.rules.specs.Election.{news, roomOpen}
-use Rattle.rules.specs.Rules.{changes, idsLeft, opensLeft, responsesLeft, closeRoom, closed, closeRule}
+use Rattle.rules.specs.Election.{elected, news, roomOpen}
+use Rattle.rules.specs.Rules.{changes, heldLeft, opensLeft, responsesLeft, closeRoom, closed, closeRule}
+use Rattle.rules_laws.specs.Elections.{close-shifts}
 use Rattle.any_list.specs.Arrays.{column, table}
 use Rattle.any_list.specs.Columns.{column-at, column-set}
 use Rattle.step_parts.specs.Ordered.{ordered-requests, ordered-responses}
-use Rattle.step_parts.specs.declared.ElectionId.{ElectionId}
-use Rattle.step_state.specs.Hold.{holdBoard, packStreams, packClaims, openAt, responsesAt, idAt}
+use Rattle.step_state.specs.Hold.{holdHeld, holdBoard, packElected, packStreams, packClaims, openAt, responsesAt, idAt}
 use Rattle.step_state.specs.Order.{OrderedStream, pastStream}
 use Rattle.step_state.specs.Reads.{answerOf, toldOf}
 use Rattle.step_state.specs.Stores.{packBoard, closedStream, storeTelling}
@@ -26,9 +27,9 @@ use Rattle.step_state.specs.declared.Stream.{Stream}
 use Rattle.step_state.specs.declared.Claims.{Claims}
 use Rattle.step_state.specs.declared.Board.{Board}
 use Rattle.step_streams.specs.Asks.{OrderedRows}
-use Rattle.step_streams.specs.Does.{tellRow}
+use Rattle.step_streams.specs.Does.{newsOf, tellRow}
 use Rattle.step_streams.proofs.Answers.{answer-by, byTests, clear}
-use Rattle.step_switch.specs.Asks.{AtBoard}
+use Rattle.step_switch.specs.Asks.{AtClaims, AtBoard}
 use Rattle.step_switch.specs.Does.{clearedAt, withClaim}
 use Rattle.step_switch.proofs.Storing.{put, shut, lands-shut, blank-back, store-row, store-claim, sized, rows-eight}
 use Rattle.step_switch.proofs.Telling.{all-told}
@@ -36,15 +37,6 @@ use Rattle.step_switch.proofs.Telling.{all-told}
 -- The board with node n's stream closed and nobody told.
 abbrev pub without : ℕ → S.Board → S.Board
 without n w = put n (shut (set (w .responses) (n - 1) [])) w
-
-board-without : (n : ℕ) (w : S.Board) → clearedAt n (packStreams w) (packClaims w) ≡ packBoard (without n w)
-board-without n w =
-    let x = shut (set (w .responses) (n - 1) []) in
-    let l = lands-shut n (set (w .responses) (n - 1) []) w in
-    λ i. record {
-      streams = store-row n x w l [] (blank-back (w .responses) (n - 1) []) (λ j z. getD-set-other (w .responses) (n - 1) j [] [] z) i;
-      claims = store-claim n x w l i;
-    }
 
 ordered-closed : OrderedStream closedStream
 ordered-closed = record { requests = ordered-requests [] (omega arith); responses = ordered-responses [] (omega arith) }
@@ -59,12 +51,9 @@ module _ {count n : ℕ} {streams : List Stream} {claims : Claims} (h : AtBoard 
   abbrev others : List Stream
   others = set streams (n - 1) closedStream
 
-  abbrev idsThen : List ElectionId
-  idsThen = set (claims .ids) (n - 1) (record { 0 = 0 })
-
-  -- the switch's master changes
+  -- the switch's master changes exactly if the stream is the master's
   abbrev pub shifts : Bool
-  shifts = changes (column idAt count (claims .ids)) (column idAt count idsThen)
+  shifts = eqb (claims .elected .master) n
 
   pub below : n - 1 < count
   below = let a = h .from in let b = h .upto in omega arith
@@ -74,14 +63,6 @@ module _ {count n : ℕ} {streams : List Stream} {claims : Claims} (h : AtBoard 
   pub open-at : getD (v .opens) (n - 1) false ≡ getD streams (n - 1) pastStream .opened
   unfolding holdBoard
   open-at = column-at openAt count (n - 1) streams pastStream below
-
-  pub ids-then : column idAt count idsThen ≡ idsLeft n v
-  unfolding holdBoard idsLeft
-  ids-then = column-set idAt count (n - 1) (claims .ids) (record { 0 = 0 })
-
-  pub ids-now : column idAt count (claims .ids) ≡ v .ids
-  unfolding holdBoard
-  ids-now = refl
 
   opens-then : column openAt count others ≡ opensLeft n v
   unfolding holdBoard opensLeft
@@ -103,8 +84,12 @@ module _ {count n : ℕ} {streams : List Stream} {claims : Claims} (h : AtBoard 
 
   -- ---- room
 
-  pub change-is : (b : Bool) → shifts ≡ b → changes (v .ids) (idsLeft n v) ≡ b
-  change-is b e = ap₂ changes (sym ids-now) (sym ids-then) ∙ e
+  change-is : (b : Bool) → shifts ≡ b → changes (v .held) (heldLeft n v) ≡ b
+  unfolding holdBoard holdHeld heldLeft
+  change-is b e =
+      let k = sized count streams claims (h .board) .ids in
+      let u = h .upto in
+      close-shifts (v .held) (h .board .kept) n (h .from) (omega arith) ∙ e
 
   pub room-quiet : shifts ≡ false → closeRoom n v ≡ true
   unfolding closeRoom
@@ -126,22 +111,41 @@ module _ {count n : ℕ} {streams : List Stream} {claims : Claims} (h : AtBoard 
 
   -- ---- the effect
 
-  without-is : clearedAt n streams claims ≡ packBoard (without n w)
-  without-is = ap₂ (clearedAt n) (sym (h .board .streams-same)) (sym (h .board .claims-same)) ∙ board-without n w
+  -- whom the switch keeps
+  pub kept-is : claims .elected ≡ packElected (elected (column idAt count (claims .ids)))
+  unfolding holdHeld
+  kept-is = ap packElected (h .board .kept)
 
-  pub closed-quiet : shifts ≡ false → clearedAt n streams claims ≡ storeTelling n (closed n v) count streams claims
+  pub at-claims : AtClaims count n claims
+  at-claims = record { within = record { few = h .board .few; from = h .from; upto = h .upto }; kept = h .board .kept }
+
+  without-is : clearedAt count n streams claims ≡ packBoard (without n w)
+  without-is =
+      let x = shut (set (w .responses) (n - 1) []) in
+      let l = lands-shut n (set (w .responses) (n - 1) []) w in
+      λ i. record {
+        streams = (ap (λ (r : List Stream). set r (n - 1) closedStream) (sym (h .board .streams-same))
+            ∙ store-row n x w l [] (blank-back (w .responses) (n - 1) []) (λ j z. getD-set-other (w .responses) (n - 1) j [] [] z)) i;
+        claims = store-claim count n x streams claims (h .board) l i;
+      }
+
+  pub closed-quiet : shifts ≡ false → clearedAt count n streams claims ≡ storeTelling n (closed n v) count streams claims
   unfolding closed responsesLeft storeTelling
   closed-quiet e = without-is ∙ simp (change-is false e)
 
+  -- the claims that are left
+  abbrev pub claimsThen : Claims
+  claimsThen = withClaim count n (record { 0 = 0 }) (record { 0 = 0 }) claims
+
   pub closed-told : shifts ≡ true → closeRoom n v ≡ true
-      → record { streams = table mostNodes (tellRow (column openAt count others) (news (column idAt count idsThen)) others); claims = withClaim n (record { 0 = 0 }) (record { 0 = 0 }) claims }
+      → record { streams = table mostNodes (tellRow (column openAt count others) (newsOf (claimsThen .elected)) others); claims = claimsThen }
       ≡ storeTelling n (closed n v) count streams claims
-  unfolding closed idsLeft opensLeft responsesLeft storeTelling packClaims
+  unfolding closed heldLeft opensLeft responsesLeft storeTelling packClaims holdBoard news
   closed-told e f =
       let s = sized count streams claims (h .board) in
       let n₁ : length (without n w .opens) ≡ length (without n w .responses) = length-set (w .opens) (n - 1) false ∙ s .opens ∙ sym (s .responses) ∙ sym (length-set (w .responses) (n - 1) []) in
       let roomy : roomOpen (without n w .opens) (without n w .responses) ≡ true = ap₂ roomOpen (sym opens-then) (sym responses-then) ∙ sym (room-told e) ∙ f in
       let rows : packStreams (without n w) ≡ others = ap (λ (x : Board). x .streams) (sym without-is) in
-      ap₂ {C = Board} (λ (a : List Bool) (i : List ℕ). record { streams = table mostNodes (tellRow a (news i) others); claims = withClaim n (record { 0 = 0 }) (record { 0 = 0 }) claims }) opens-then ids-then
-      ∙ (λ i. record { streams = all-told (news (without n w .ids)) (without n w) n₁ roomy others rows i; claims = without-is i .claims })
+      ap {B = Board} (λ (a : List Bool). record { streams = table mostNodes (tellRow a (newsOf (claimsThen .elected)) others); claims = claimsThen }) opens-then
+      ∙ (λ i. record { streams = all-told (news (heldLeft n v)) (without n w) n₁ roomy others rows i; claims = without-is i .claims })
       ∙ simp (change-is true e)

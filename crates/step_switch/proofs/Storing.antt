@@ -9,10 +9,11 @@ use lib.ListN.{length, getD, set}
 use lib.Seq.{getD-set-same, getD-set-other}
 use Rattle.rules.specs.Limits.{mostNodes}
 use Rattle.rules.specs.State as S
+use Rattle.rules.specs.Election.{elected, holding}
 use Rattle.rules.specs.Parts.{Telling, tellPart}
 use Rattle.any_list.specs.Columns.{length-column}
 use Rattle.any_list.specs.Tables.{table-get, table-set, table-length}
-use Rattle.step_state.specs.Hold.{holdBoard, packStream, packStreams, packClaims, streamRow, idRow, termRow, openAt, sentAt, requestsAt, responsesAt, idAt, termAt}
+use Rattle.step_state.specs.Hold.{holdHeld, holdBoard, packElected, packStream, packStreams, packClaims, streamRow, idRow, termRow, openAt, sentAt, requestsAt, responsesAt, idAt, termAt}
 use Rattle.step_state.specs.Order.{OrderedBoard, pastStream}
 use Rattle.step_state.specs.declared.Stream.{Stream}
 use Rattle.step_state.specs.declared.Claims.{Claims}
@@ -29,7 +30,7 @@ pub record Sized (count : ℕ) (w : S.Board) : Type 0 where
   pub sent : length (w .sent) ≡ count
   pub requests : length (w .requests) ≡ count
   pub responses : length (w .responses) ≡ count
-  pub ids : length (w .ids) ≡ count
+  pub ids : length (w .held .ids) ≡ count
   pub terms : length (w .terms) ≡ count
 
 pub rows-eight : (w : S.Board) (streams : List Stream) → packStreams w ≡ streams → length streams ≡ mostNodes
@@ -38,14 +39,14 @@ rows-eight w streams e = ap length (sym e) ∙ table-length mostNodes (streamRow
 
 ids-eight : (w : S.Board) (claims : Claims) → packClaims w ≡ claims → length (claims .ids) ≡ mostNodes
 unfolding packClaims
-ids-eight w claims e = ap (λ (c : Claims). length (c .ids)) (sym e) ∙ table-length mostNodes (idRow (w .ids))
+ids-eight w claims e = ap (λ (c : Claims). length (c .ids)) (sym e) ∙ table-length mostNodes (idRow (w .held .ids))
 
 terms-eight : (w : S.Board) (claims : Claims) → packClaims w ≡ claims → length (claims .terms) ≡ mostNodes
 unfolding packClaims
 terms-eight w claims e = ap (λ (c : Claims). length (c .terms)) (sym e) ∙ table-length mostNodes (termRow (w .terms))
 
 pub sized : (count : ℕ) (streams : List Stream) (claims : Claims) → OrderedBoard count streams claims → Sized count (holdBoard count streams claims)
-unfolding holdBoard
+unfolding holdBoard holdHeld
 sized count streams claims h =
     let few : count ≤ 8 = h .few in
     let rows = rows-eight _ streams (h .streams-same) in
@@ -78,7 +79,7 @@ pub record Lands (n : ℕ) (x : Telling) (w : S.Board) : Type 0 where
   pub opens : getD (set (w .opens) (n - 1) (x .isOpen)) (n - 1) false ≡ x .isOpen
   pub sent : getD (set (w .sent) (n - 1) (x .sent)) (n - 1) 0 ≡ x .sent
   pub requests : getD (set (w .requests) (n - 1) (x .requests)) (n - 1) [] ≡ x .requests
-  pub ids : getD (set (w .ids) (n - 1) (x .id)) (n - 1) 0 ≡ x .id
+  pub ids : getD (set (w .held .ids) (n - 1) (x .id)) (n - 1) 0 ≡ x .id
   pub terms : getD (set (w .terms) (n - 1) (x .term)) (n - 1) 0 ≡ x .term
 
 pub lands : (count n : ℕ) (x : Telling) (w : S.Board) → Sized count w → n - 1 < count → Lands n x w
@@ -92,7 +93,7 @@ lands count n x w s h =
       opens = getD-set-same (w .opens) (n - 1) (x .isOpen) false (omega arith);
       sent = getD-set-same (w .sent) (n - 1) (x .sent) 0 (omega arith);
       requests = getD-set-same (w .requests) (n - 1) (x .requests) [] (omega arith);
-      ids = getD-set-same (w .ids) (n - 1) (x .id) 0 (omega arith);
+      ids = getD-set-same (w .held .ids) (n - 1) (x .id) 0 (omega arith);
       terms = getD-set-same (w .terms) (n - 1) (x .term) 0 (omega arith);
     }
 
@@ -105,7 +106,7 @@ lands-shut n responses w = record {
   opens = blank-back (w .opens) (n - 1) false;
   sent = blank-back (w .sent) (n - 1) 0;
   requests = blank-back (w .requests) (n - 1) [];
-  ids = blank-back (w .ids) (n - 1) 0;
+  ids = blank-back (w .held .ids) (n - 1) 0;
   terms = blank-back (w .terms) (n - 1) 0;
 }
 
@@ -118,10 +119,14 @@ module _ (n : ℕ) (x : Telling) (w : S.Board) (l : Lands n x w) where
       (rw (l .opens, l .sent, l .requests, e))
       (λ i z. rw (getD-set-other (w .opens) (n - 1) i (x .isOpen) false z, getD-set-other (w .sent) (n - 1) i (x .sent) 0 z, getD-set-other (w .requests) (n - 1) i (x .requests) [] z, others i z))
 
-  pub store-claim : withClaim n (record { 0 = x .id }) (record { 0 = x .term }) (packClaims w) ≡ packClaims (put n x w)
-  unfolding packClaims
-  store-claim = λ i. record {
-    ids = table-set mostNodes (idRow (w .ids)) (idRow (put n x w .ids)) (n - 1) (record { 0 = x .id }) (rw (l .ids)) (λ i z. rw (getD-set-other (w .ids) (n - 1) i (x .id) 0 z)) i;
-    terms = table-set mostNodes (termRow (w .terms)) (termRow (put n x w .terms)) (n - 1) (record { 0 = x .term }) (rw (l .terms)) (λ i z. rw (getD-set-other (w .terms) (n - 1) i (x .term) 0 z)) i;
-    last = record { 0 = w .last };
-  }
+-- the claims of node n, stored beside whom the ids then elect
+pub store-claim : (count n : ℕ) (x : Telling) (streams : List Stream) (claims : Claims) → OrderedBoard count streams claims → Lands n x (holdBoard count streams claims)
+    → withClaim count n (record { 0 = x .id }) (record { 0 = x .term }) claims ≡ packClaims (put n x (holdBoard count streams claims))
+unfolding packClaims holdHeld holdBoard holding elected
+store-claim count n x streams claims h l =
+    let w = holdBoard count streams claims in
+    let ids = ap (λ (c : Claims). set (c .ids) (n - 1) (record { 0 = x .id })) (sym (h .claims-same))
+    ∙ table-set mostNodes (idRow (w .held .ids)) (idRow (put n x w .held .ids)) (n - 1) (record { 0 = x .id }) (rw (l .ids)) (λ i z. rw (getD-set-other (w .held .ids) (n - 1) i (x .id) 0 z)) in
+    let terms = ap (λ (c : Claims). set (c .terms) (n - 1) (record { 0 = x .term })) (sym (h .claims-same))
+    ∙ table-set mostNodes (termRow (w .terms)) (termRow (put n x w .terms)) (n - 1) (record { 0 = x .term }) (rw (l .terms)) (λ i z. rw (getD-set-other (w .terms) (n - 1) i (x .term) 0 z)) in
+    λ i. record { ids = ids i; terms = terms i; elected = packElected (holding n (x .id) (holdHeld count claims)); last = claims .last }

@@ -64,7 +64,7 @@ withResponses responses w = record {
   sent = w .sent;
   requests = w .requests;
   responses = responses;
-  ids = w .ids;
+  held = w .held;
   terms = w .terms;
   last = w .last;
 }

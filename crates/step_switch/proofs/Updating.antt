@@ -1,12 +1,14 @@
 -- Handling an update: what the code reads is what the rule reads, and its stores are what the rule writes. Assumes nothing.
 use mathlib.Core.Path.{_≡_, refl, sym, ap, ap₂, _∙_}
+use mathlib.Core.Logic.{_≢_}
 use mathlib.Core.Bool.{Bool, true, false, not, _&&_}
 use mathlib.Core.List.{List, []}
 use Prim.Native.Nat.{ℕ, _-_, _≤_, _<_}
 use native.Mathlib.Omega.{arith}
-use lib.Dec.{leb}
+use lib.Dec.{leb, eqb}
 use lib.ListN.{length, getD, set, length-set}
 use lib.Seq.{getD-set-same, getD-set-other, set-getD}
+use borrow.Author.Tests.{eq-eqb, ne-eqb}
 use Rattle.rules.specs.Limits.{mostNodes, queueLength}
 use Rattle.rules.specs.Codes.{stepDone, notAllowed}
 use Rattle.rules.specs.State as S
@@ -14,24 +16,24 @@ use Rattle.rules.specs.Queues.{push, first, rest, empty, room}
 use Rattle.rules.specs.Part.{decide}
 use Rattle.rules.specs.Parts.{Told, Telling}
 use Rattle.rules.specs.Election.{taken, news, roomOpen, tellAll}
-use Rattle.rules.specs.Rules.{noRequest, isUpdate, changes, asked, idsLeft, opensLeft, responsesLeft, idsWith, closeRoom, closed, closeRule, updateRoom, updated, handleUpdateRule}
+use Rattle.rules.specs.Rules.{noRequest, isUpdate, changes, asked, heldLeft, opensLeft, responsesLeft, heldWith, closeRoom, closed, closeRule, updateRoom, updated, handleUpdateRule}
 use Rattle.any_list.specs.Arrays.{column, table}
 use Rattle.any_list.specs.Columns.{column-at, column-set}
 use Rattle.any_list.specs.Queue.{room-held}
 use Rattle.step_parts.specs.Hold.{holdRequests, holdResponses, packRequest, packRequests, packResponse, holdResponse, noResponse, responsesQueue}
 use Rattle.step_parts.specs.Ordered.{pop-requests}
-use Rattle.step_parts.specs.declared.ElectionId.{ElectionId}
 use Rattle.step_parts.specs.declared.Message.the-variants as M
 use Rattle.step_parts.specs.declared.Response.{Response}
-use Rattle.step_state.specs.Hold.{holdBoard, packStream, packStreams, packClaims, streamRow, openAt, requestsAt, responsesAt, idAt}
+use Rattle.step_state.specs.Hold.{holdHeld, holdBoard, packStream, packStreams, packClaims, streamRow, openAt, requestsAt, responsesAt, idAt}
 use Rattle.step_state.specs.Order.{pastStream}
 use Rattle.step_state.specs.Reads.{answerOf, toldOf}
 use Rattle.step_state.specs.Stores.{packBoard, storeTelling}
+use Rattle.step_state.specs.declared.Elected.{Elected}
 use Rattle.step_state.specs.declared.Stream.{Stream}
 use Rattle.step_state.specs.declared.Claims.{Claims}
 use Rattle.step_state.specs.declared.Board.{Board}
 use Rattle.step_streams.specs.Asks.{HasHead}
-use Rattle.step_streams.specs.Does.{responded, withoutHead, able, tellRow, waiting}
+use Rattle.step_streams.specs.Does.{newsOf, responded, withoutHead, able, tellRow, waiting}
 use Rattle.step_streams.proofs.Answers.{answer-by, byTests, clear}
 use Rattle.step_streams.proofs.Waiting.{Ready, ready, running-too, message, update-waits, no-update-waits}
 use Rattle.step_switch.specs.Asks.{AtBoard, UpdateAt}
@@ -66,7 +68,7 @@ module _ {count n : ℕ} {streams : List Stream} {claims : Claims} (h : AtBoard 
 
   pub update-answer : (running q : Bool) → waiting running row ≡ M.Update → handleUpdateRule n .queuesLeft (toldOf count n true streams claims) ≡ q
       → answerOf (decide (handleUpdateRule n) (toldOf count n running streams claims)) ≡ byTests true true true q
-  unfolding handleUpdateRule closeRoom updateRoom idsLeft opensLeft responsesLeft idsWith
+  unfolding handleUpdateRule closeRoom updateRoom heldLeft opensLeft responsesLeft heldWith
   update-answer running q e f =
       answer-by (handleUpdateRule n) (toldOf count n running streams claims) true true true q (update-allowed running ∙ update-waits running row e) refl refl f
 
@@ -108,24 +110,22 @@ module _ {count n : ℕ} {streams : List Stream} {claims : Claims} (u : UpdateAt
   pub head-is : packRequest (first noRequest (holdRequests (r .requests))) ≡ packRequest (asked v)
   head-is = ap (λ (l : List S.Request). packRequest (first noRequest l)) (sym (requests-at h))
 
-  -- the ids with its id taken
-  abbrev idsThen : List ElectionId
-  idsThen = set (claims .ids) (n - 1) (record { 0 = asked v .id })
-
   -- the claims with its id and term
   abbrev pub claimsThen : Claims
-  claimsThen = withClaim n (record { 0 = asked v .id }) (record { 0 = asked v .term }) claims
+  claimsThen = withClaim count n (record { 0 = asked v .id }) (record { 0 = asked v .term }) claims
 
   -- the switch's master changes
   abbrev pub shifts : Bool
-  shifts = changes (column idAt count (claims .ids)) (column idAt count idsThen)
+  shifts = not (eqb (claims .elected .master) (claimsThen .elected .master))
 
-  pub ids-then : column idAt count idsThen ≡ idsWith n v
-  unfolding holdBoard idsWith
-  ids-then = column-set idAt count (n - 1) (claims .ids) (record { 0 = asked v .id })
+  pub shifts-yes : (e : Elected) → e ≡ claimsThen .elected → claims .elected .master ≢ e .master → shifts ≡ true
+  shifts-yes e is z = ap not (ne-eqb (claims .elected .master) (claimsThen .elected .master) (λ q. z (q ∙ ap (λ (x : Elected). x .master) (sym is))))
+
+  pub shifts-no : (e : Elected) → e ≡ claimsThen .elected → claims .elected .master ≡ e .master → shifts ≡ false
+  shifts-no e is q = ap not (eq-eqb (claims .elected .master) (claimsThen .elected .master) (q ∙ ap (λ (x : Elected). x .master) is))
 
   pub collides-is : taken n (asked v .id) (column idAt count (claims .ids)) ≡ collides n v
-  unfolding holdBoard
+  unfolding holdBoard holdHeld
   collides-is = refl
 
   -- a collision closes the stream
@@ -150,9 +150,9 @@ module _ {count n : ℕ} {streams : List Stream} {claims : Claims} (u : UpdateAt
 
   -- ---- room
 
-  change-is : (b : Bool) → shifts ≡ b → changes (v .ids) (idsWith n v) ≡ b
-  unfolding holdBoard
-  change-is b e = ap (changes (v .ids)) (sym ids-then) ∙ e
+  change-is : (b : Bool) → shifts ≡ b → changes (v .held) (heldWith n v) ≡ b
+  unfolding changes heldWith holdBoard holdHeld
+  change-is b e = e
 
   pub room-all : shifts ≡ true → updateRoom n v ≡ roomOpen (column openAt count streams) (column responsesAt count streams)
   unfolding updateRoom holdBoard
@@ -187,8 +187,7 @@ module _ {count n : ℕ} {streams : List Stream} {claims : Claims} (u : UpdateAt
 
   claims-are : (responses : List (List S.Response)) → claimsThen ≡ packClaims (put n (took responses) w)
   claims-are responses =
-      ap (withClaim n (record { 0 = asked v .id }) (record { 0 = asked v .term })) (sym (h .board .claims-same))
-      ∙ store-claim n (took responses) w (lands count n (took responses) w (sized count streams claims (h .board)) lt)
+      store-claim count n (took responses) streams claims (h .board) (lands count n (took responses) w (sized count streams claims (h .board)) lt)
 
   rows-are : set streams (n - 1) (withoutHead r) ≡ packStreams (put n (took (w .responses)) w)
   rows-are =
@@ -209,38 +208,38 @@ module _ {count n : ℕ} {streams : List Stream} {claims : Claims} (u : UpdateAt
   -- the master changes, and all are told
   pub updated-all : shifts ≡ true → updateRoom n v ≡ true
       → (let next = set streams (n - 1) (withoutHead r) in
-      record { streams = table mostNodes (tellRow (column openAt count next) (news (column idAt count idsThen)) next); claims = claimsThen }
+      record { streams = table mostNodes (tellRow (column openAt count next) (newsOf (claimsThen .elected)) next); claims = claimsThen }
       ≡ storeTelling n (updated n v) count streams claims)
-  unfolding updated idsWith storeTelling packClaims
+  unfolding updated heldWith storeTelling packClaims holdBoard news
   updated-all e f =
       let s = sized count streams claims (h .board) in
       let next = set streams (n - 1) (withoutHead r) in
       let after = put n (took (w .responses)) w in
       let k : length (after .opens) ≡ length (after .responses) = length-set (w .opens) (n - 1) true ∙ s .opens ∙ sym (s .responses) in
-      ap₂ {C = Board} (λ (o : List Bool) (i : List ℕ). record { streams = table mostNodes (tellRow o (news i) next); claims = claimsThen }) opens-then ids-then
-      ∙ (λ i. record { streams = all-told (news (after .ids)) after k (roomy e f) next (sym rows-are) i; claims = claims-are (w .responses) i })
-      ∙ ap (λ (o : List Bool). packBoard (put n (took (tellAll (news (after .ids)) o (w .responses))) w)) opens-stay
+      ap {B = Board} (λ (o : List Bool). record { streams = table mostNodes (tellRow o (newsOf (claimsThen .elected)) next); claims = claimsThen }) opens-then
+      ∙ (λ i. record { streams = all-told (news (heldWith n v)) after k (roomy e f) next (sym rows-are) i; claims = claims-are (w .responses) i })
+      ∙ ap (λ (o : List Bool). packBoard (put n (took (tellAll (news (heldWith n v)) o (w .responses))) w)) opens-stay
       ∙ simp (change-is true e)
 
   -- the master stays, and only n is told
   pub updated-one : shifts ≡ false → updateRoom n v ≡ true
-      → record { streams = set streams (n - 1) (responded (packResponse (news (idsWith n v) n)) (withoutHead r)); claims = claimsThen }
+      → record { streams = set streams (n - 1) (responded (packResponse (newsOf (claimsThen .elected) n)) (withoutHead r)); claims = claimsThen }
       ≡ storeTelling n (updated n v) count streams claims
-  unfolding updated storeTelling
+  unfolding updated heldWith storeTelling holdBoard news
   updated-one e f =
       let s = sized count streams claims (h .board) in
       let q = getD (w .responses) (n - 1) [] in
-      let pushed = push (news (idsWith n v) n) q in
+      let pushed = push (news (heldWith n v) n) q in
       let responses = set (w .responses) (n - 1) pushed in
       let b : n - 1 < length (w .responses) = let k = s .responses in let j = lt in omega arith in
       let space : room q ≡ true = ap room (responses-at h) ∙ sym (room-one e) ∙ f in
-      let x : responded (packResponse (news (idsWith n v) n)) (withoutHead r) ≡ packStream true (v .sent) (rest (v .requests)) pushed =
-      ap (responded (packResponse (news (idsWith n v) n))) without-head-is
+      let x : responded (packResponse (newsOf (claimsThen .elected) n)) (withoutHead r) ≡ packStream true (v .sent) (rest (v .requests)) pushed =
+      ap (responded (packResponse (newsOf (claimsThen .elected) n))) without-head-is
       ∙ (λ i. record {
         opened = true;
         sent = record { 0 = v .sent };
         requests = packRequests (rest (v .requests));
-        responses = push-packed (news (idsWith n v) n) q space i;
+        responses = push-packed (news (heldWith n v) n) q space i;
       }) in
       (λ i. record {
         streams =

@@ -2,14 +2,12 @@
 // A step is two functions: one gives its answer code and only reads, the other does what is to be done where the code is 0.
 ghost use mathlib.Core.Path.{_≡_};
 ghost use mathlib.Core.Bool.{true};
-ghost use Prim.Native.Nat.{_≤_};
-ghost use Rattle.rules.specs.Limits.{mostNodes};
 ghost use Rattle.rules.specs.Part.{decide};
 ghost use Rattle.rules.specs.Rules as R;
 ghost use Rattle.rules.specs.Rules.{closeRule, closeRoom, handleUpdateRule, updateRoom};
 ghost use Rattle.step_state.specs.Reads.{answerOf, toldOf};
 ghost use Rattle.step_state.specs.Stores.{storeTelling};
-ghost use Rattle.step_switch.specs.Asks.{AtBoard, Tells, UpdateAt, CanUpdate};
+ghost use Rattle.step_switch.specs.Asks.{AtClaims, AtBoard, Tells, UpdateAt, CanUpdate};
 ghost use Rattle.step_switch.specs.Does.{withClaim, clearedAt, collides};
 use step_parts::ElectionId;
 use step_parts::Message;
@@ -18,43 +16,43 @@ use step_state::Board;
 use step_state::Claims;
 use step_state::Stream;
 
-// The switch holds this id and this term for the node.
-fn with_claim(node: u8, id: ElectionId, term: Term, claims: Claims) -> Claims
-    requires { ⌜ (1 ≤ node) × (node ≤ mostNodes) ⌝ }
-    ensures { λ r. ⌜ r ≡ withClaim node id term claims ⌝ }
+// The switch holds this id and this term for the node, and elects anew: the one way to change an id.
+fn with_claim(count: u8, node: u8, id: ElectionId, term: Term, claims: Claims) -> Claims
+    requires { ⌜ AtClaims count node claims ⌝ }
+    ensures { λ r. ⌜ r ≡ withClaim count node id term claims ⌝ }
 {
     let at = (node - 1) as usize;
+    let ids = claims.ids;
+    let now = claims.elected;
     let mut next = claims;
     next.ids[at] = id;
     next.terms[at] = term;
+    next.elected = step_streams::elected_with(count, node, id, ids, now);
     next
 }
 
 // The node's stream is closed, and what the switch holds of it cleared. Nobody is told.
-fn cleared_at(node: u8, streams: [Stream; 8], claims: Claims) -> Board
-    requires { ⌜ (1 ≤ node) × (node ≤ mostNodes) ⌝ }
-    ensures { λ r. ⌜ r ≡ clearedAt node streams claims ⌝ }
+fn cleared_at(count: u8, node: u8, streams: [Stream; 8], claims: Claims) -> Board
+    requires { ⌜ AtClaims count node claims ⌝ }
+    ensures { λ r. ⌜ r ≡ clearedAt count node streams claims ⌝ }
 {
     let at = (node - 1) as usize;
     let mut next = streams;
     next[at] = step_state::closed_stream();
-    let cleared = with_claim(node, ElectionId(0), Term(0), claims);
+    let cleared = with_claim(count, node, ElectionId(0), Term(0), claims);
     Board {
         streams: next,
         claims: cleared,
     }
 }
 
-// Whether all streams that closing the node's would tell have room.
+// Whether all streams that closing the node's would tell have room. They are told where it is the master's.
 fn close_room(count: u8, node: u8, streams: [Stream; 8], claims: Claims) -> bool
     requires { ⌜ AtBoard count node streams claims ⌝ }
     ensures { λ r. ⌜ r ≡ closeRoom node (toldOf count node true streams claims) ⌝ }
 {
-    let ids = claims.ids;
-    let at = (node - 1) as usize;
-    let mut left = ids;
-    left[at] = ElectionId(0);
-    if step_streams::master_changes(count, ids, left) {
+    if claims.elected.master == node {
+        let at = (node - 1) as usize;
         let mut others = streams;
         others[at] = step_state::closed_stream();
         return step_streams::tell_room(count, others);
@@ -78,18 +76,17 @@ pub fn close_code(count: u8, node: u8, streams: [Stream; 8], claims: Claims) -> 
     step_parts::NOT_ALLOWED
 }
 
-// 9 Close: the stream is closed, and where the switch's master changes, every stream still open is told.
+// 9 Close: the stream is closed, and where it was the master's, every stream still open is told.
 pub fn close(count: u8, node: u8, streams: [Stream; 8], claims: Claims) -> Board
     requires { ⌜ Tells closeRule count node streams claims ⌝ }
     ensures { λ r. ⌜ r ≡ storeTelling node (closeRule node .effect (toldOf count node true streams claims)) count streams claims ⌝ }
 {
-    let left = cleared_at(node, streams, claims);
-    let held = left.claims;
-    let ids_left = held.ids;
-    let ids = claims.ids;
-    if step_streams::master_changes(count, ids, ids_left) {
+    let left = cleared_at(count, node, streams, claims);
+    if claims.elected.master == node {
         let rows = left.streams;
-        let told = step_streams::tell_all(count, ids_left, rows);
+        let held = left.claims;
+        let elected = held.elected;
+        let told = step_streams::tell_all(count, elected, rows);
         return Board {
             streams: told,
             claims: held,
@@ -108,9 +105,9 @@ fn update_room(count: u8, node: u8, streams: [Stream; 8], claims: Claims) -> boo
     let request = step_streams::head(stream);
     let id = request.id;
     let ids = claims.ids;
-    let mut next = ids;
-    next[at] = id;
-    if step_streams::master_changes(count, ids, next) {
+    let now = claims.elected;
+    let next = step_streams::elected_with(count, node, id, ids, now);
+    if now.master != next.master {
         return step_streams::tell_room(count, streams);
     }
     if stream.responses.full() {
@@ -179,20 +176,20 @@ fn updated(count: u8, node: u8, streams: [Stream; 8], claims: Claims) -> Board
     let request = step_streams::head(stream);
     let id = request.id;
     let term = request.term;
-    let held = with_claim(node, id, term, claims);
-    let old = claims.ids;
-    let ids = held.ids;
+    let held = with_claim(count, node, id, term, claims);
+    let now = claims.elected;
+    let elected = held.elected;
     let row = step_streams::without_head(stream);
     let mut next = streams;
-    if step_streams::master_changes(count, old, ids) {
+    if now.master != elected.master {
         next[at] = row;
-        let told = step_streams::tell_all(count, ids, next);
+        let told = step_streams::tell_all(count, elected, next);
         return Board {
             streams: told,
             claims: held,
         };
     }
-    next[at] = step_streams::tell_one(count, node, ids, row);
+    next[at] = step_streams::tell_one(node, elected, row);
     Board {
         streams: next,
         claims: held,

@@ -19,15 +19,15 @@ use Rattle.step_switch_row.specs.declared.Handled.{Handled}
 use Rattle.step_switch_row.specs.Asks.{AtStream, CanWrite}
 use Rattle.step_switch_row.specs.Handled.{storeHandled}
 
-module _ (count n : ℕ) (running : Bool) (stream : Stream) (claims : Claims) (writes : ℕ) where
-  pub write-can : AtStream count n stream → answerOf (decide (handleWriteRule n) (servedOf count n running stream claims writes)) ≡ stepDone → CanWrite count n stream claims
+module _ (n : ℕ) (running : Bool) (stream : Stream) (claims : Claims) (writes : ℕ) where
+  pub write-can : AtStream n stream → answerOf (decide (handleWriteRule n) (servedOf n running stream claims writes)) ≡ stepDone → CanWrite n stream claims
   unfolding handleWriteRule
   write-can h e =
-      let v = servedOf count n running stream claims writes in
+      let v = servedOf n running stream claims writes in
       let tests = clear (handleWriteRule n) v e in
       record { head = record { at = h; allowed = running-too running stream (isWrite (message stream)) (tests .allowed) }; roomy = tests .queuesLeft }
 
-  pub write-effect : handleWriteRule n .effect (servedOf count n true stream claims 0) ≡ handleWriteRule n .effect (servedOf count n running stream claims writes)
+  pub write-effect : handleWriteRule n .effect (servedOf n true stream claims 0) ≡ handleWriteRule n .effect (servedOf n running stream claims writes)
   unfolding handleWriteRule accepts
   write-effect = refl
 

@@ -1,9 +1,8 @@
 -- Handling a write: what the code reads is what the rule reads, and its stores are what the rule writes. Assumes nothing.
-use mathlib.Core.Path.{_≡_, refl, sym, ap, ap₂, _∙_}
-use mathlib.Core.Bool.{Bool, true, false, not, _&&_, _||_}
-use Prim.Native.Nat.{ℕ, _-_, _<_}
-use native.Mathlib.Omega.{arith}
-use lib.Dec.{leb, ltb, eqb}
+use mathlib.Core.Path.{_≡_, refl, sym, ap, _∙_}
+use mathlib.Core.Bool.{Bool, true, false, not, _||_}
+use Prim.Native.Nat.{ℕ, _-_}
+use lib.Dec.{leb, ltb}
 use lib.ListN.{getD}
 use Rattle.rules.specs.Limits.{queueLength, historyLength}
 use Rattle.rules.specs.Codes.{notAllowed}
@@ -11,19 +10,15 @@ use Rattle.rules.specs.State as S
 use Rattle.rules.specs.Queues.{push, first, rest, empty}
 use Rattle.rules.specs.Part.{decide}
 use Rattle.rules.specs.Parts.{Served}
-use Rattle.rules.specs.Election.{masterOf}
 use Rattle.rules.specs.Rules.{noRequest, isWrite, accepts, writeAnswer, handleWriteRule}
-use Rattle.any_list.specs.Arrays.{column}
-use Rattle.any_list.specs.Columns.{column-at}
 use Rattle.any_list.specs.Queue.{room-held}
 use Rattle.step_parts.specs.Hold.{holdRequests, holdResponses, packRequests, packResponse, packResponses, holdResponse, noResponse, responsesQueue}
 use Rattle.step_parts.specs.Ordered.{pop-requests, push-responses}
 use Rattle.step_parts.specs.declared.Message.the-variants as M
-use Rattle.step_state.specs.Hold.{idAt, termAt}
 use Rattle.step_state.specs.Reads.{answerOf, servedOf}
 use Rattle.step_state.specs.declared.Stream.{Stream}
 use Rattle.step_state.specs.declared.Claims.{Claims}
-use Rattle.step_streams.specs.Asks.{IsNode, HasHead}
+use Rattle.step_streams.specs.Asks.{HasHead}
 use Rattle.step_streams.specs.Does.{responded, withoutHead, waiting}
 use Rattle.step_streams.proofs.Answers.{answer-by, byTests}
 use Rattle.step_streams.proofs.Waiting.{ready, running-too, message, write-waits, no-write-waits}
@@ -31,56 +26,42 @@ use Rattle.step_switch_row.specs.Asks.{AtStream, WriteAt, CanWrite}
 use Rattle.step_switch_row.specs.Does.{judged}
 use Rattle.step_switch_row.specs.Handled.{storeHandled}
 
-module _ {count n : ℕ} (k : IsNode count n) (claims : Claims) where
-  below : n - 1 < count
-  below = let a = k .from in let b = k .upto in omega arith
-
-  pub term-at : getD (column termAt count (claims .terms)) (n - 1) 0 ≡ getD (claims .terms) (n - 1) (record { 0 = 0 }) .0
-  term-at = column-at termAt count (n - 1) (claims .terms) (record { 0 = 0 }) below
-
-  -- the three tests on the row of n
-  pub judged-is : (id : ℕ) → judged count n id claims
-      ≡ (eqb (getD (claims .ids) (n - 1) (record { 0 = 0 }) .0) id && eqb (masterOf (column idAt count (claims .ids))) n && leb (claims .last .0) (getD (claims .terms) (n - 1) (record { 0 = 0 }) .0))
-  unfolding judged
-  judged-is id =
-      ap₂ (λ (i t : ℕ). eqb i id && eqb (masterOf (column idAt count (claims .ids))) n && leb (claims .last .0) t) (column-at idAt count (n - 1) (claims .ids) (record { 0 = 0 }) below) term-at
-
 -- the id of the write at the head
 abbrev pub headId : Stream → ℕ
 headId s = first noRequest (holdRequests (s .requests)) .id
 
-module _ {count n : ℕ} {s : Stream} (h : AtStream count n s) (claims : Claims) where
+module _ {n : ℕ} {s : Stream} (h : AtStream n s) (claims : Claims) where
   -- a write that waits may be handled
-  pub write-at : (running : Bool) → waiting running s ≡ M.Write → WriteAt count n s claims
+  pub write-at : (running : Bool) → waiting running s ≡ M.Write → WriteAt n s claims
   unfolding handleWriteRule
   write-at running e = record { at = h; allowed = running-too running s (isWrite (message s)) (write-waits running s e) }
 
   -- it waits where the switch runs
   pub write-runs : (running : Bool) (writes : ℕ) → waiting running s ≡ M.Write
-      → answerOf (decide (handleWriteRule n) (servedOf count n true s claims writes)) ≡ answerOf (decide (handleWriteRule n) (servedOf count n running s claims writes))
+      → answerOf (decide (handleWriteRule n) (servedOf n true s claims writes)) ≡ answerOf (decide (handleWriteRule n) (servedOf n running s claims writes))
   write-runs running writes e =
-      ap (λ (b : Bool). answerOf (decide (handleWriteRule n) (servedOf count n b s claims writes))) (sym (ready running s (isWrite (message s)) (write-waits running s e) .runs))
+      ap (λ (b : Bool). answerOf (decide (handleWriteRule n) (servedOf n b s claims writes))) (sym (ready running s (isWrite (message s)) (write-waits running s e) .runs))
 
-  pub no-write : (running : Bool) (writes : ℕ) → (waiting running s ≡ M.Write → ⊥) → answerOf (decide (handleWriteRule n) (servedOf count n running s claims writes)) ≡ notAllowed
+  pub no-write : (running : Bool) (writes : ℕ) → (waiting running s ≡ M.Write → ⊥) → answerOf (decide (handleWriteRule n) (servedOf n running s claims writes)) ≡ notAllowed
   unfolding handleWriteRule
   no-write running writes e =
-      let v = servedOf count n running s claims writes in
+      let v = servedOf n running s claims writes in
       answer-by (handleWriteRule n) v false true (handleWriteRule n .historyLeft v) (handleWriteRule n .queuesLeft v) (no-write-waits running s e) refl refl refl
 
-module _ {count n : ℕ} {s : Stream} {claims : Claims} (u : WriteAt count n s claims) where
+module _ {n : ℕ} {s : Stream} {claims : Claims} (u : WriteAt n s claims) where
   pub has-head : HasHead s
   unfolding handleWriteRule
   has-head = record { ordered = u .at .ordered; some = ready true s (isWrite (message s)) (u .allowed) .some }
 
   -- the answer by the room that is left
-  pub write-answer : (writes : ℕ) (t q : Bool) → (not (judged count n (headId s) claims) || ltb writes historyLength) ≡ t → not (leb queueLength (s .responses .len)) ≡ q
-      → answerOf (decide (handleWriteRule n) (servedOf count n true s claims writes)) ≡ byTests true true t q
+  pub write-answer : (writes : ℕ) (t q : Bool) → (not (judged n (headId s) claims) || ltb writes historyLength) ≡ t → not (leb queueLength (s .responses .len)) ≡ q
+      → answerOf (decide (handleWriteRule n) (servedOf n true s claims writes)) ≡ byTests true true t q
   unfolding handleWriteRule accepts judged
   write-answer writes t q e f =
-      answer-by (handleWriteRule n) (servedOf count n true s claims writes) true true t q (u .allowed) refl e
+      answer-by (handleWriteRule n) (servedOf n true s claims writes) true true t q (u .allowed) refl e
       (room-held noResponse packResponse holdResponse (responsesQueue (s .responses)) (u .at .ordered .responses) ∙ f)
 
-module _ {count n : ℕ} {s : Stream} {claims : Claims} (u : CanWrite count n s claims) where
+module _ {n : ℕ} {s : Stream} {claims : Claims} (u : CanWrite n s claims) where
   full-not : (b : Bool) → not b ≡ true → b ≡ false
   full-not true e = sym e
   full-not false e = refl
@@ -99,20 +80,20 @@ module _ {count n : ℕ} {s : Stream} {claims : Claims} (u : CanWrite count n s 
       }
 
   abbrev v : Served
-  v = servedOf count n true s claims 0
+  v = servedOf n true s claims 0
 
-  pub accepted : judged count n (headId s) claims ≡ true
+  pub accepted : judged n (headId s) claims ≡ true
       → record { stream = responded (packResponse (writeAnswer S.ok)) (withoutHead s); last = getD (claims .terms) (n - 1) (record { 0 = 0 }); accepted = true; term = record { 0 = first noRequest (holdRequests (s .requests)) .term } }
       ≡ storeHandled (handleWriteRule n .effect v) s
   unfolding storeHandled handleWriteRule accepts judged first empty
   accepted e = (λ i. record {
     stream = answered S.ok i;
-    last = record { 0 = sym (term-at (u .head .at .within) claims) i };
+    last = getD (claims .terms) (n - 1) (record { 0 = 0 });
     accepted = true;
     term = record { 0 = first noRequest (holdRequests (s .requests)) .term };
   }) ∙ simp e
 
-  pub denied : judged count n (headId s) claims ≡ false
+  pub denied : judged n (headId s) claims ≡ false
       → record { stream = responded (packResponse (writeAnswer S.permissionDenied)) (withoutHead s); last = claims .last; accepted = false; term = record { 0 = 0 } }
       ≡ storeHandled (handleWriteRule n .effect v) s
   unfolding storeHandled handleWriteRule accepts judged first empty

@@ -3,13 +3,10 @@ use mathlib.Core.Bool.{Bool, _&&_}
 use Prim.Native.Nat.{ℕ, _-_}
 use lib.Dec.{leb, eqb}
 use lib.ListN.{getD}
-use Rattle.rules.specs.Election.{masterOf}
-use Rattle.any_list.specs.Arrays.{column}
-use Rattle.step_state.specs.Hold.{idAt, termAt}
 use Rattle.step_state.specs.declared.Claims.{Claims}
 
 -- A write with this id from node n is accepted.
-unfoldable pub judged : ℕ → ℕ → ℕ → Claims → Bool
-judged count n id c =
-    eqb (getD (column idAt count (c .ids)) (n - 1) 0) id
-    && eqb (masterOf (column idAt count (c .ids))) n && leb (c .last .0) (getD (column termAt count (c .terms)) (n - 1) 0)
+unfoldable pub judged : ℕ → ℕ → Claims → Bool
+judged n id c =
+    eqb (getD (c .ids) (n - 1) (record { 0 = 0 }) .0) id
+    && eqb (c .elected .master) n && leb (c .last .0) (getD (c .terms) (n - 1) (record { 0 = 0 }) .0)

@@ -2,13 +2,14 @@
 // other does what is to be done where the code is 0.
 ghost use mathlib.Core.Path.{_≡_};
 ghost use mathlib.Core.Bool.{true};
+ghost use Prim.Native.Nat.{_≤_};
 ghost use lib.Dec.{leb};
+ghost use Rattle.rules.specs.Limits.{mostNodes};
 ghost use Rattle.rules.specs.Part.{decide};
 ghost use Rattle.rules.specs.Rules.{connectRule, handleWriteRule};
 ghost use Rattle.step_parts.specs.declared.Message.the-variants as M;
 ghost use Rattle.step_state.specs.Reads.{answerOf, linkedOf, servedOf};
 ghost use Rattle.step_state.specs.Stores.{storeOpen};
-ghost use Rattle.step_streams.specs.Asks.{IsNode};
 ghost use Rattle.step_switch_row.specs.Asks.{AtStream, WriteAt, CanWrite};
 ghost use Rattle.step_switch_row.specs.Does.{judged};
 ghost use Rattle.step_switch_row.specs.Handled.{storeHandled};
@@ -58,15 +59,15 @@ fn is_current(last: Term, term: Term) -> bool
 }
 
 // Whether the switch accepts a write with this id from the node.
-fn accepts(count: u8, node: u8, id: ElectionId, claims: Claims) -> bool
-    requires { ⌜ IsNode count node ⌝ }
-    ensures { λ r. ⌜ r ≡ judged count node (id .0) claims ⌝ }
+fn accepts(node: u8, id: ElectionId, claims: Claims) -> bool
+    requires { ⌜ (1 ≤ node) × (node ≤ mostNodes) ⌝ }
+    ensures { λ r. ⌜ r ≡ judged node (id .0) claims ⌝ }
 {
     let at = (node - 1) as usize;
     let ids = claims.ids;
     let own = ids[at];
     if own.0 == id.0 {
-        if step_streams::master_of(count, ids) == node {
+        if claims.elected.master == node {
             let terms = claims.terms;
             let term = terms[at];
             let last = claims.last;
@@ -88,13 +89,13 @@ fn written(status: Status) -> Response
 }
 
 // The answer to the write at the head of the stream's requests.
-fn write_code(count: u8, node: u8, stream: Stream, claims: Claims, writes: u16) -> u8
-    requires { ⌜ WriteAt count node stream claims ⌝ }
-    ensures { λ r. ⌜ r ≡ answerOf (decide (handleWriteRule node) (servedOf count node true stream claims writes)) ⌝ }
+fn write_code(node: u8, stream: Stream, claims: Claims, writes: u16) -> u8
+    requires { ⌜ WriteAt node stream claims ⌝ }
+    ensures { λ r. ⌜ r ≡ answerOf (decide (handleWriteRule node) (servedOf node true stream claims writes)) ⌝ }
 {
     let request = step_streams::head(stream);
     let id = request.id;
-    if accepts(count, node, id, claims) {
+    if accepts(node, id, claims) {
         if step_parts::HISTORY_LENGTH <= writes {
             return step_parts::HISTORY_FULL;
         }
@@ -106,33 +107,26 @@ fn write_code(count: u8, node: u8, stream: Stream, claims: Claims, writes: u16) 
 }
 
 // 11 Handle write: its answer. The history holds `writes`.
-pub fn handle_write_code(
-    count: u8,
-    node: u8,
-    running: bool,
-    stream: Stream,
-    claims: Claims,
-    writes: u16,
-) -> u8
-    requires { ⌜ AtStream count node stream ⌝ }
-    ensures { λ r. ⌜ r ≡ answerOf (decide (handleWriteRule node) (servedOf count node running stream claims writes)) ⌝ }
+pub fn handle_write_code(node: u8, running: bool, stream: Stream, claims: Claims, writes: u16) -> u8
+    requires { ⌜ AtStream node stream ⌝ }
+    ensures { λ r. ⌜ r ≡ answerOf (decide (handleWriteRule node) (servedOf node running stream claims writes)) ⌝ }
 {
     let message = step_streams::waits(running, stream);
     match message {
-        Message::Write => write_code(count, node, stream, claims, writes),
+        Message::Write => write_code(node, stream, claims, writes),
         _ => step_parts::NOT_ALLOWED,
     }
 }
 
 // 11 Handle write: the request is taken off and answered.
-pub fn handle_write(count: u8, node: u8, stream: Stream, claims: Claims) -> Handled
-    requires { ⌜ CanWrite count node stream claims ⌝ }
-    ensures { λ r. ⌜ r ≡ storeHandled (handleWriteRule node .effect (servedOf count node true stream claims 0)) stream ⌝ }
+pub fn handle_write(node: u8, stream: Stream, claims: Claims) -> Handled
+    requires { ⌜ CanWrite node stream claims ⌝ }
+    ensures { λ r. ⌜ r ≡ storeHandled (handleWriteRule node .effect (servedOf node true stream claims 0)) stream ⌝ }
 {
     let request = step_streams::head(stream);
     let id = request.id;
     let row = step_streams::without_head(stream);
-    if accepts(count, node, id, claims) {
+    if accepts(node, id, claims) {
         let at = (node - 1) as usize;
         let terms = claims.terms;
         let last = terms[at];

@@ -5,7 +5,12 @@
 //     =a1 .. =m0    a step. The letter is its kind, a for 1 to m for 13, and the digit its node: the code
 //     =O0  =C0      the open streams: their word, and how many there are
 //     =W0  =T0      the accepted write at place 0: its node, and its term
+//     =I0           the election id that the switch holds at place 0: node 1's
+//     =M0  =L0      the switch's master, and the largest id
 use files::Input;
+use step::Report;
+use step_state::Claims;
+use step_state::History;
 use step_state::State;
 
 // A number, and the state from then on.
@@ -14,22 +19,52 @@ struct Shown {
     state: State,
 }
 
-fn looked(state: State, what: u8, n: u8) -> u64 {
-    let open = step::open_streams(state);
+// The open streams.
+fn open_streams(open: Report, what: u8) -> u64 {
     if what == b'O' {
         return open.word as u64;
     }
-    if what == b'C' {
-        return open.number as u64;
-    }
-    let history = state.history;
-    let at = n as usize;
+    open.number as u64
+}
+
+// The accepted write at a place.
+fn accepted(history: History, what: u8, place: u8) -> u64 {
+    let at = place as usize;
     let write = history.items[at];
     if what == b'W' {
         return write.node as u64;
     }
-    let term = write.term;
-    term.0 as u64
+    write.term.0 as u64
+}
+
+// What the switch holds.
+fn held(claims: Claims, what: u8, place: u8) -> u64 {
+    let elected = claims.elected;
+    if what == b'M' {
+        return elected.master as u64;
+    }
+    if what == b'L' {
+        return elected.largest.0 as u64;
+    }
+    if 7 < place {
+        return 0;
+    }
+    let at = place as usize;
+    let id = claims.ids[at];
+    id.0 as u64
+}
+
+fn looked(state: State, what: u8, n: u8) -> u64 {
+    if (what == b'O') | (what == b'C') {
+        return open_streams(step::open_streams(state), what);
+    }
+    if (what == b'W') | (what == b'T') {
+        let history = state.history;
+        return accepted(history, what, n);
+    }
+    let core = state.core;
+    let claims = core.claims;
+    held(claims, what, n)
 }
 
 fn answer(state: State, what: u8, n: u8) -> Shown {

@@ -7,6 +7,7 @@ use Rattle.rules.specs.Limits.{queueLength}
 use Rattle.step_nodes.specs.Waiting.{sendAnswer}
 use Rattle.step_asks.specs.Kinds.{last-row}
 use Rattle.step_groups.specs.Answers.{learn-answer, send-update-answer, receive-update-answer, send-write-answer, receive-write-answer}
+use native.Mathlib.Omega.{arith}
 use borrow.Author.Needs.{needs}
 use Rattle.step_groups.proofs.row_code.Statement.{statement}
 use Rattle.step_groups.proofs.row_code.Tie as tie
@@ -45,7 +46,11 @@ connect-code-requires : tie.Need-connect-code-requires
 connect-code-requires c κs = search needs
 
 handle-write-code-requires : tie.Need-handle-write-code-requires
-handle-write-code-requires c κs = let asks = c .before .pre in record { within = asks .within; ordered = asks .ordered-stream }
+handle-write-code-requires c κs =
+    let asks = c .before .pre in
+    let few = asks .within .few in
+    let upto = asks .within .upto in
+    record { from = asks .within .from; upto = omega arith; ordered = asks .ordered-stream }
 
 returns : tie.Need-returns
 returns c =

@@ -20,8 +20,8 @@ controllers-fit-requires c κs = search needs
 streams-fit-requires : tie.Need-streams-fit-requires
 streams-fit-requires c κs = search needs
 
-ids-fit-requires : tie.Need-ids-fit-requires
-ids-fit-requires c κs = search needs
+held-fits-requires : tie.Need-held-fits-requires
+held-fits-requires c κs = search needs
 
 returns-2 : tie.Need-returns-2
 unfolding coreTest
@@ -35,7 +35,7 @@ returns-2 c =
       from-result (controllers .controllers-fit .ensures) (streams .before .if3 .taken),
       from-result (streams .streams-fit .ensures) (c .before .if4 .taken),
     )
-    (c .ids-fit .ensures)
+    (c .held-fits .ensures)
 
 returns-3 : tie.Need-returns-3
 unfolding coreTest
@@ -64,4 +64,4 @@ unfolding coreTest
 returns-5 c = simp (le-leb _ _ (c .before .before .if1 .left), from-result (c .before .service-fits .ensures) (c .if2 .left))
 
 pub core-fits-spec : {M : Type 1} → statement M
-core-fits-spec = tie.close (tie.spec returns service-fits-requires controllers-fit-requires streams-fit-requires ids-fit-requires returns-2 returns-3 returns-4 returns-5)
+core-fits-spec = tie.close (tie.spec returns service-fits-requires controllers-fit-requires streams-fit-requires held-fits-requires returns-2 returns-3 returns-4 returns-5)

@@ -1,6 +1,5 @@
 -- `blank_core` meets its contract. Assumes nothing.
-use Rattle.rules.specs.Step.{fresh}
-use Rattle.step_state.specs.Hold.{packCore, packControllers}
+use Rattle.step_state.specs.Hold.{packControllers}
 use Rattle.step_state.specs.Blank.{blank-core}
 use borrow.Author.Needs.{needs}
 use Rattle.step_state.proofs.blank_core.Statement.{statement}
@@ -16,7 +15,7 @@ blank-board-requires : tie.Need-blank-board-requires
 blank-board-requires c κs = search needs
 
 returns : tie.Need-returns
-unfolding packCore fresh packControllers
+unfolding packControllers
 returns c =
     let at-board = c .before .before in
     let at-empty = at-board .before in

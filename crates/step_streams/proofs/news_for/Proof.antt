@@ -1,6 +1,5 @@
 -- `news_for` meets its contract. Assumes nothing.
 use borrow.Author.Needs.{needs}
-use Rattle.rules.specs.Election.{news}
 use Rattle.step_streams.proofs.news_for.Statement.{statement}
 use Rattle.step_streams.proofs.news_for.Tie as tie
 
@@ -8,8 +7,7 @@ status-for-requires : tie.Need-status-for-requires
 status-for-requires c κs = search needs
 
 returns : tie.Need-returns
-unfolding news
-returns c = λ ids e f. simp (f, c .status-for .ensures ids e)
+returns c = simp (c .before .status-for .ensures)
 
 pub news-for-spec : {M : Type 1} → statement M
 news-for-spec = tie.close (tie.spec status-for-requires returns)

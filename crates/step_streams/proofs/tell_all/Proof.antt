@@ -10,16 +10,16 @@ use lib.ListN.{length, getD, set}
 use borrow.Author.Needs.{needs}
 use Rattle.rules.specs.Limits.{mostNodes}
 use Rattle.rules.specs.Open.{wordOf}
-use Rattle.rules.specs.Election.{largest, masterOf, news}
 use Rattle.any_list.specs.Arrays.{column}
 use Rattle.any_list.specs.Columns.{length-column}
 use Rattle.any_word.specs.Flags.{Lowest, lowest}
 use Rattle.any_word.specs.Walk.{Walk, walk-start, walk-step, walk-at, walk-end}
 use Rattle.step_parts.specs.Hold.{packResponse}
-use Rattle.step_state.specs.Hold.{idAt, openAt}
+use Rattle.step_state.specs.Hold.{openAt}
 use Rattle.step_state.specs.Order.{pastStream}
+use Rattle.step_state.specs.declared.Elected.{Elected}
 use Rattle.step_state.specs.declared.Stream.{Stream}
-use Rattle.step_streams.specs.Does.{responded, tellRow}
+use Rattle.step_streams.specs.Does.{newsOf, responded, tellRow}
 use Rattle.step_streams.proofs.tell_all.Statement.{statement}
 use Rattle.step_streams.proofs.tell_all.Tie as tie
 
@@ -28,27 +28,26 @@ abbrev row : List Stream → ℕ → Stream
 row l i = getD l i pastStream
 
 -- the flags are still to be walked, and every other open stream is told
-record Telling (count : ℕ) (ids : List ℕ) (rows₀ : List Stream) (left : ℕ) (rows : List Stream) : Type 0 where
+record Telling (count : ℕ) (elected : Elected) (rows₀ : List Stream) (left : ℕ) (rows : List Stream) : Type 0 where
   flags : List Bool
   word : left ≡ wordOf flags
-  walk : Walk mostNodes (row rows₀) (tellRow (column openAt count rows₀) (news ids) rows₀) pastStream (column openAt count rows₀) flags rows
+  walk : Walk mostNodes (row rows₀) (tellRow (column openAt count rows₀) (newsOf elected) rows₀) pastStream (column openAt count rows₀) flags rows
 
 abbrev Inv-loop : tie.InvT-loop
-Inv-loop count top master left₀ next₀ left next = (ids : List ℕ) → masterOf ids ≡ master → largest ids ≡ top .0 → Telling count ids next₀ left next
+Inv-loop count elected left₀ next₀ left next = Telling count elected next₀ left next
 
 abbrev μ-loop : tie.MeasureT-loop
-μ-loop count top master left₀ next₀ left next = left
+μ-loop count elected left₀ next₀ left next = left
 
 -- there are eight rows
 places : (c : tie.Start Inv-loop μ-loop) → length (c .args .streams) ≡ 8
 places c = c .good .1 .1 .0 .1 .0 .1
 
 -- the lowest flag that is left
-low : (c : tie.In-loop Inv-loop μ-loop) (ids : List ℕ) (m : masterOf ids ≡ c .before .before .before .master-of .result) (t : largest ids ≡ c .before .before .before .before .largest-id .result .0)
-    → Lowest (c .before .loop .inv ids m t .flags) (trailingZeros 32 (c .before .loop .left)) (bitAnd (c .before .loop .left) (c .before .loop .left - 1))
-low c ids m t =
-    let start = c .before .before .before .before .before in
-    let so-far = c .before .loop .inv ids m t in
+low : (c : tie.In-loop Inv-loop μ-loop) → Lowest (c .before .loop .inv .flags) (trailingZeros 32 (c .before .loop .left)) (bitAnd (c .before .loop .left) (c .before .loop .left - 1))
+low c =
+    let start = c .before .before .before in
+    let so-far = c .before .loop .inv in
     let few : start .args .count ≤ 8 = start .pre in
     let k = places start in
     let n = length-column openAt (start .args .count) (start .args .streams) (omega arith) in
@@ -58,35 +57,25 @@ low c ids m t =
     rw e (lowest 32 (so-far .flags) (omega arith) (omega arith))
 
 -- and its place is that of a node
-place : (c : tie.In-loop Inv-loop μ-loop) → trailingZeros 32 (c .before .loop .left) < c .before .before .before .before .before .args .count
+place : (c : tie.In-loop Inv-loop μ-loop) → trailingZeros 32 (c .before .loop .left) < c .before .before .before .args .count
 place c =
-    let start = c .before .before .before .before .before in
-    let ids = column idAt (start .args .count) (start .args .ids) in
-    let m = sym (c .before .before .before .master-of .ensures) in
-    let t = sym (c .before .before .before .before .largest-id .ensures) in
+    let start = c .before .before .before in
     let few : start .args .count ≤ 8 = start .pre in
     let k = places start in
     let n = length-column openAt (start .args .count) (start .args .streams) (omega arith) in
-    omega (arith, low c ids m t .inside, c .before .loop .inv ids m t .walk .among)
-
-largest-id-requires : tie.Need-largest-id-requires Inv-loop μ-loop
-largest-id-requires c κs = search needs
-
-master-of-requires : tie.Need-master-of-requires Inv-loop μ-loop
-master-of-requires c κs = search needs
+    omega (arith, low c .inside, c .before .loop .inv .walk .among)
 
 open-word-requires : tie.Need-open-word-requires Inv-loop μ-loop
 open-word-requires c κs = search needs
 
 loop-holds : tie.Need-loop-holds Inv-loop μ-loop
 loop-holds c =
-    λ ids m t.
-    let start = c .before .before .before in
+    let start = c .before in
     let flags = column openAt (start .args .count) (start .args .streams) in
     record {
       flags = flags;
       word = c .open-word .ensures;
-      walk = walk-start mostNodes (row (start .args .streams)) (tellRow flags (news ids) (start .args .streams)) pastStream flags (start .args .streams) (places start) (λ i lt. refl) (λ i e. sym (simp e));
+      walk = walk-start mostNodes (row (start .args .streams)) (tellRow flags (newsOf (start .args .elected)) (start .args .streams)) pastStream flags (start .args .streams) (places start) (λ i lt. refl) (λ i e. sym (simp e));
     }
 
 cast-i : tie.Need-cast-i Inv-loop μ-loop
@@ -126,21 +115,20 @@ loop-less c =
 
 loop-again : tie.Need-loop-again Inv-loop μ-loop
 loop-again c =
-    λ ids m t.
     let turn = c .before .before .before in
-    let start = turn .before .before .before .before .before in
-    let so-far = turn .before .loop .inv ids m t in
-    let l = low turn ids m t in
+    let start = turn .before .before .before in
+    let so-far = turn .before .loop .inv in
+    let l = low turn in
     let i = trailingZeros 32 (turn .before .loop .left) in
     let flags = column openAt (start .args .count) (start .args .streams) in
     let old = row (start .args .streams) in
-    let new = tellRow flags (news ids) (start .args .streams) in
+    let new = tellRow flags (newsOf (start .args .elected)) (start .args .streams) in
     let few : start .args .count ≤ 8 = start .pre in
     let lt : i < mostNodes = omega (arith, place turn) in
     let was = walk-at mostNodes old new pastStream flags (so-far .flags) (turn .before .loop .next) i (so-far .walk) lt (l .isSet) in
     let is : c .respond .result ≡ new i =
-    c .respond .ensures ∙ ap₂ responded (c .before .news-for .ensures ids m t) was
-    ∙ sym (ap (λ (b : Bool). cond b (responded (packResponse (news ids (i + 1))) (old i)) (old i)) (so-far .walk .sub i (l .isSet))) in
+    c .respond .ensures ∙ ap₂ responded (c .before .news-for .ensures) was
+    ∙ sym (ap (λ (b : Bool). cond b (responded (packResponse (newsOf (start .args .elected) (i + 1))) (old i)) (old i)) (so-far .walk .sub i (l .isSet))) in
     record {
       flags = set (so-far .flags) i false;
       word = l .cleared;
@@ -150,11 +138,10 @@ loop-again c =
 returns : tie.Need-returns Inv-loop μ-loop
 returns c =
     let turn = c .before in
-    let start = turn .before .before .before .before in
-    let ids = column idAt (start .args .count) (start .args .ids) in
-    let so-far = turn .loop .inv ids (sym (turn .before .before .master-of .ensures)) (sym (turn .before .before .before .largest-id .ensures)) in
+    let start = turn .before .before in
+    let so-far = turn .loop .inv in
     let flags = column openAt (start .args .count) (start .args .streams) in
-    walk-end mostNodes (row (start .args .streams)) (tellRow flags (news ids) (start .args .streams)) pastStream flags (so-far .flags) (turn .loop .next) (so-far .walk) (sym (so-far .word) ∙ c .loop-test .left)
+    walk-end mostNodes (row (start .args .streams)) (tellRow flags (newsOf (start .args .elected)) (start .args .streams)) pastStream flags (so-far .flags) (turn .loop .next) (so-far .walk) (sym (so-far .word) ∙ c .loop-test .left)
 
 pub tell-all-spec : {M : Type 1} → statement M
 tell-all-spec =
@@ -162,8 +149,6 @@ tell-all-spec =
     (tie.spec
     Inv-loop
     μ-loop
-    largest-id-requires
-    master-of-requires
     open-word-requires
     loop-holds
     cast-i

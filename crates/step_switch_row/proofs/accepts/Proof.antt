@@ -2,7 +2,7 @@
 use mathlib.Core.Path.{sym, _∙_}
 use borrow.Author.Tests.{eq-eqb, ne-eqb}
 use borrow.Author.Needs.{needs}
-use Rattle.step_switch_row.proofs.Writing.{judged-is}
+use Rattle.step_switch_row.specs.Does.{judged}
 use Rattle.step_switch_row.proofs.accepts.Statement.{statement}
 use Rattle.step_switch_row.proofs.accepts.Tie as tie
 
@@ -18,9 +18,6 @@ mul-own c = search needs
 array-copy-out-own : tie.Need-array-copy-out-own
 array-copy-out-own c = search needs
 
-master-of-requires : tie.Need-master-of-requires
-master-of-requires c κs = search needs
-
 mul-term : tie.Need-mul-term
 mul-term c = search needs
 
@@ -31,21 +28,16 @@ is-current-requires : tie.Need-is-current-requires
 is-current-requires c κs = search needs
 
 returns : tie.Need-returns
-returns c =
-    let start = c .before .before .before .before .before .before .before .before .before .before .before in
-    c .is-current .ensures
-    ∙ sym (judged-is (start .pre) (start .args .claims) (start .args .id .0)
-    ∙ simp (eq-eqb _ _ (c .before .before .before .before .before .before .if1 .taken), eq-eqb _ _ (sym (c .before .before .before .before .before .master-of .ensures) ∙ c .before .before .before .before .if2 .taken)))
+unfolding judged
+returns c = c .is-current .ensures ∙ sym (simp (eq-eqb _ _ (c .before .before .before .before .before .before .if1 .taken), eq-eqb _ _ (c .before .before .before .before .if2 .taken)))
 
 returns-2 : tie.Need-returns-2
-returns-2 c =
-    let start = c .before .before .before .before .before .before .before in
-    sym (judged-is (start .pre) (start .args .claims) (start .args .id .0) ∙ simp (eq-eqb _ _ (c .before .before .if1 .taken), ne-eqb _ _ (λ e. c .if2 .left (c .before .master-of .ensures ∙ e))))
+unfolding judged
+returns-2 c = sym (simp (eq-eqb _ _ (c .before .before .if1 .taken), ne-eqb _ _ (c .if2 .left)))
 
 returns-3 : tie.Need-returns-3
-returns-3 c =
-    let start = c .before .before .before .before .before in
-    sym (judged-is (start .pre) (start .args .claims) (start .args .id .0) ∙ simp (ne-eqb _ _ (c .if1 .left)))
+unfolding judged
+returns-3 c = sym (simp (ne-eqb _ _ (c .if1 .left)))
 
 pub accepts-spec : {M : Type 1} → statement M
 accepts-spec =
@@ -55,7 +47,6 @@ accepts-spec =
     cast-at
     mul-own
     array-copy-out-own
-    master-of-requires
     mul-term
     array-copy-out-term
     is-current-requires

@@ -15,10 +15,10 @@ use Rattle.step_switch_row.proofs.handle_write.Statement.{statement}
 use Rattle.step_switch_row.proofs.handle_write.Tie as tie
 
 -- whether the write is accepted
-judges : (c : tie.After-accepts) (b : Bool) → c .accepts .result ≡ b → let start = c .before .before .before .before in judged (start .args .count) (start .args .node) (headId (start .args .stream)) (start .args .claims) ≡ b
+judges : (c : tie.After-accepts) (b : Bool) → c .accepts .result ≡ b → let start = c .before .before .before .before in judged (start .args .node) (headId (start .args .stream)) (start .args .claims) ≡ b
 judges c b e =
     let start = c .before .before .before .before in
-    ap (λ (r : Request). judged (start .args .count) (start .args .node) (r .id .0) (start .args .claims)) (sym (c .before .before .before .head .ensures)) ∙ sym (c .accepts .ensures) ∙ e
+    ap (λ (r : Request). judged (start .args .node) (r .id .0) (start .args .claims)) (sym (c .before .before .before .head .ensures)) ∙ sym (c .accepts .ensures) ∙ e
 
 head-requires : tie.Need-head-requires
 head-requires c κs = has-head (c .pre .head)
@@ -27,7 +27,7 @@ without-head-requires : tie.Need-without-head-requires
 without-head-requires c κs = search needs
 
 accepts-requires : tie.Need-accepts-requires
-accepts-requires c κs = c .before .before .before .pre .head .at .within
+accepts-requires c κs = let at = c .before .before .before .pre .head .at in (at .from, at .upto)
 
 sub-at : tie.Need-sub-at
 sub-at c = search needs

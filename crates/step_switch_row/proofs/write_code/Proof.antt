@@ -13,13 +13,13 @@ use Rattle.step_switch_row.proofs.write_code.Statement.{statement}
 use Rattle.step_switch_row.proofs.write_code.Tie as tie
 
 -- whether the write is accepted
-judges : (c : tie.After-accepts) (b : Bool) → c .accepts .result ≡ b → let start = c .before .before .before in judged (start .args .count) (start .args .node) (headId (start .args .stream)) (start .args .claims) ≡ b
+judges : (c : tie.After-accepts) (b : Bool) → c .accepts .result ≡ b → let start = c .before .before .before in judged (start .args .node) (headId (start .args .stream)) (start .args .claims) ≡ b
 judges c b e =
     let start = c .before .before .before in
-    ap (λ (r : Request). judged (start .args .count) (start .args .node) (r .id .0) (start .args .claims)) (sym (c .before .before .head .ensures)) ∙ sym (c .accepts .ensures) ∙ e
+    ap (λ (r : Request). judged (start .args .node) (r .id .0) (start .args .claims)) (sym (c .before .before .head .ensures)) ∙ sym (c .accepts .ensures) ∙ e
 
 -- there is room in the history, or none is needed
-left-over : (c : tie.Joined1) → let start = c .before .before .before .before in (not (judged (start .args .count) (start .args .node) (headId (start .args .stream)) (start .args .claims)) || ltb (start .args .writes) historyLength) ≡ true
+left-over : (c : tie.Joined1) → let start = c .before .before .before .before in (not (judged (start .args .node) (headId (start .args .stream)) (start .args .claims)) || ltb (start .args .writes) historyLength) ≡ true
 left-over c =
     let start = c .before .before .before .before in
     ⊎-elim (λ w. simp (judges (c .before) _ (w .0 .taken), lt-ltb (start .args .writes) 1024 (w .1 .left))) (λ w. simp (judges (c .before) _ (w .left))) (c .if1 .came)
@@ -28,7 +28,7 @@ head-requires : tie.Need-head-requires
 head-requires c κs = has-head (c .pre)
 
 accepts-requires : tie.Need-accepts-requires
-accepts-requires c κs = c .before .before .pre .at .within
+accepts-requires c κs = let at = c .before .before .pre .at in (at .from, at .upto)
 
 returns : tie.Need-returns
 returns c =
