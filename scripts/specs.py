@@ -18,7 +18,7 @@ def crate_of(path):
 
 def place(path):
     """The file or struct that a module's path means, as crate/specs/File or crate::Struct; nothing for one of the kit's."""
-    found = re.fullmatch(r"Rattle·(\w+?)(?:·specs)?\.specs\.(declared\.)?(\w+)(?:\.the-variants)?", path)
+    found = re.fullmatch(r"Rattle\.(\w+)\.specs\.(declared\.)?(\w+)(?:\.TheVariants)?", path)
     if found and (CRATES / found[1]).is_dir():
         return f"{found[1]}::{found[3]}" if found[2] else f"{found[1]}/specs/{found[3]}"
     return None
@@ -26,7 +26,7 @@ def place(path):
 
 def spellings(name):
     """How a name is written: itself, and of an operator its parts, which stand between its arguments."""
-    return [name] + ([part for part in name.split("_") if part] if "_" in name else [])
+    return [name] + ([part for part in name.split("◌") if part] if "◌" in name else [])
 
 
 def scope(lines, opening):
