@@ -1,5 +1,6 @@
 // The lines of the program's output, put into a lent buffer. Each function puts its bytes at a place of the buffer and answers the place behind
 // them. It asks for room for them and for nothing else.
+#![tactic(auto)]
 ghost use Rattle.std.specs.Prelude.{[], ◌∷◌, ◌+◌, ◌*◌, ◌≤◌, length};
 ghost use Rattle.any_text.specs.Decimal.{decimal};
 ghost use Rattle.any_text.specs.Lines.{number, record_line, writes_line, write_line, refused_line};
@@ -9,7 +10,7 @@ ghost use Rattle.any_text.specs.Put.{Room, Put};
 const ZERO: u8 = b'0';
 
 // What a program prints: how many bytes of one buffer on standard output, and of another, which says why there are none, on standard error.
-#[derive(Drop)]
+#[derive(Clone, Copy)]
 pub struct Printed {
     pub out: usize,
     pub line: usize,

@@ -1,1 +1,2 @@
 // Laws of the word of the open streams: see specs/.
+#![tactic(auto)]

@@ -1,11 +1,13 @@
 // The lines of a text, the words of a line, and the numbers that words say.
+#![tactic(auto)]
+
 ghost use Rattle.std.specs.Prelude.{◌≡◌, ◌≤◌, eqb, length, get_or};
 ghost use Rattle.any_search.specs.Seek.{Sought};
 ghost use Rattle.any_words.specs.Text.{is_blank, is_digit, same, number_of};
 ghost use Rattle.any_words.specs.Words.{blank_is};
 
 // A word of a line.
-#[derive(Drop)]
+#[derive(Clone, Copy)]
 pub enum Number {
     Value(u64),
     Bad,

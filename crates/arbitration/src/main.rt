@@ -1,4 +1,5 @@
 // Reads the bytes of one arbitration message from standard input, and prints its fields.
+#![tactic(auto)]
 use files::Input;
 use libc::STDERR_FILENO;
 

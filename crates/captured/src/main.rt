@@ -1,4 +1,5 @@
 // Reads the frames of a captured stream from standard input, one after another, and prints what each carries.
+#![tactic(auto)]
 ghost use Rattle.std.specs.Prelude.{◌≤◌, length};
 
 use files::Input;
@@ -11,7 +12,7 @@ const ROOM: usize = wire_frames::HEAD + wire_text::LONGEST;
 const TOO_LONG: u8 = 8;
 
 // What comes next: a frame, read or refused; the end; or a failed read, which has been told.
-#[derive(Drop)]
+#[derive(Clone, Copy)]
 enum Next {
     Read(Frame),
     End,

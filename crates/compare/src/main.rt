@@ -1,4 +1,5 @@
 // Compares the two event lists that its arguments name: whether they are merges of the same logs that cannot differ in the writes accepted, and what running both gives.
+#![tactic(auto)]
 use files::Input;
 
 fn main() {

@@ -1,6 +1,7 @@
 // What a program reads and prints. A read that fails is told from the end of the input, and output that could not be written is said on standard error.
 //
 // No contract can speak of bytes that come from outside or go there. Those here say that what was read lies within the buffer that was lent.
+#![tactic(auto)]
 ghost use Rattle.files.specs.Within.{Within};
 
 use libc::{STDERR_FILENO, STDIN_FILENO, STDOUT_FILENO};
@@ -9,7 +10,7 @@ use libc::{STDERR_FILENO, STDIN_FILENO, STDOUT_FILENO};
 const MOST_INTERRUPTIONS: usize = 1000;
 
 // What reading came to: so many bytes at the buffer's start, fewer than fill it only where the input ended there; or a refusal that has been printed.
-#[derive(Drop)]
+#[derive(Clone, Copy)]
 pub enum Input {
     Whole(usize),
     Refused,

@@ -1,4 +1,5 @@
 // From a text to an event list: what the program `write_list` prints.
+#![tactic(auto)]
 ghost use Rattle.std.specs.Prelude.{◌≡◌, List, ℕ, ◌+◌, ◌≤◌, length};
 ghost use Rattle.any_text.specs.Put.{Put};
 ghost use Rattle.any_text.specs.Printed.{Prints};
@@ -25,7 +26,7 @@ const ROOM: usize = LONGEST + 2;
 const UNREAD: u8 = 0;
 
 // Whether a line is good, or else why not; with it, the node count, and how many bytes of steps there are.
-#[derive(Drop)]
+#[derive(Clone, Copy)]
 struct Taken {
     good: bool,
     code: u8,
@@ -34,7 +35,7 @@ struct Taken {
 }
 
 // The line that is refused, or 0, and why; the node count, and how many bytes of steps there are.
-#[derive(Drop)]
+#[derive(Clone, Copy)]
 struct Source {
     line: usize,
     code: u8,

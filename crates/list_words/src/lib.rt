@@ -1,4 +1,6 @@
 // Steps in text: the names of the kinds, and what a line says.
+#![tactic(auto)]
+
 ghost use Rattle.std.specs.Prelude.{◌≡◌};
 ghost use Rattle.any_words.specs.Text.{words, same};
 ghost use Rattle.list_words.specs.Names.{name_of};
@@ -8,14 +10,14 @@ ghost use Rattle.list_words.specs.Line.{byte_of, kind_named, kind_said, said, of
 use any_words::Number;
 
 // A number of one byte, or none.
-#[derive(Drop)]
+#[derive(Clone, Copy)]
 pub enum Byte {
     Is(u8),
     No,
 }
 
 // What a line says: nothing, the node count, a step's kind and node, or what cannot be read.
-#[derive(Drop)]
+#[derive(Clone, Copy)]
 pub enum Line {
     Blank,
     Nodes(u8),

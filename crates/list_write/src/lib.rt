@@ -1,4 +1,6 @@
 // The writer of event lists: steps and a node count in, a list with its trailer out.
+#![tactic(auto)]
+
 ghost use Rattle.std.specs.Prelude.{◌≡◌, ◌<◌, length};
 ghost use Rattle.list_write.specs.Write.{steps_in, fault_of, first_fault, write_refusal, wrote, return_of};
 ghost use Rattle.list_write.specs.Steps.{step_from};
@@ -12,7 +14,7 @@ const MISSING: u8 = 255;
 const WROTE: u32 = 256;
 
 // The code, and how many bytes the list has: none where it is refused.
-#[derive(Drop)]
+#[derive(Clone, Copy)]
 pub struct Wrote {
     pub code: u8,
     pub length: usize,

@@ -1,4 +1,5 @@
 // The pairs of records in a merged log that are in doubt, found one after another.
+#![tactic(auto)]
 ghost use Rattle.std.specs.Prelude.{◌≡◌, ◌+◌, ◌*◌, ◌≤◌, ◌<◌, length, take};
 ghost use Rattle.log_read.specs.Log.{most_records};
 ghost use Rattle.merge_letters.specs.Letters.{letter_of, TableFor};
@@ -12,7 +13,7 @@ ghost use Rattle.log_doubts.specs.Found.{most_pairs, Found};
 use log_read::{AT_KIND, AT_LOG, AT_NODE, AT_TIME, ROW};
 
 // Two records, by their places.
-#[derive(Drop)]
+#[derive(Clone, Copy)]
 pub struct Pair {
     pub x: usize,
     pub y: usize,

@@ -1,5 +1,7 @@
 // Reading a merged log from text: a first line with the node count and the clocks' bound, then a line for each record with its log, time, kind and node.
 // Empty lines are skipped.
+#![tactic(auto)]
+
 ghost use Rattle.std.specs.Prelude.{◌≡◌, [], ◌∷◌, ◌+◌, ◌*◌, ◌≤◌, ◌<◌, length, take};
 ghost use Rattle.std.proofs.Math.Option.{some};
 ghost use Rattle.std.proofs.lemmas.List.Edits.{sets};
@@ -28,7 +30,7 @@ pub const AT_NODE: usize = 4;
 pub const ROOM: usize = 163810;
 
 // A line: no words, two or four numbers, or none of these.
-#[derive(Drop)]
+#[derive(Clone, Copy)]
 pub enum Line {
     Blank,
     Two(u64, u64),
@@ -37,14 +39,14 @@ pub enum Line {
 }
 
 // Whether a line fits, and how many records there are with it.
-#[derive(Drop)]
+#[derive(Clone, Copy)]
 struct Taken {
     fits: bool,
     records: usize,
 }
 
 // What the first line says, if it is not empty and good.
-#[derive(Drop)]
+#[derive(Clone, Copy)]
 struct Head {
     empty: bool,
     good: bool,
@@ -53,14 +55,14 @@ struct Head {
 }
 
 // Which line is refused, or 0; and how many records stand before it.
-#[derive(Drop)]
+#[derive(Clone, Copy)]
 struct Rows {
     refused: usize,
     records: usize,
 }
 
 // The same, with what the first line says. All 0 where that is refused.
-#[derive(Drop)]
+#[derive(Clone, Copy)]
 pub struct Log {
     pub refused: usize,
     pub nodes: u8,

@@ -1,4 +1,6 @@
 // The records of a merged log as numbers (see specs/), what their times allow, and the line about two of them.
+#![tactic(auto)]
+
 ghost use Rattle.std.specs.Prelude.{◌≡◌, ◌+◌, ◌*◌, ◌≤◌, leb, length};
 ghost use Rattle.any_text.specs.Put.{Put};
 ghost use Rattle.log_records.specs.Rows.{row_in};

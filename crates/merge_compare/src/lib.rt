@@ -1,5 +1,6 @@
 // Comparing two merges of the same logs: the records of the first list are taken, in turn, out of the second, each past those that are independent of it. The
 // places of the second list's records stand in a row; where one is taken, those before it that are left move up.
+#![tactic(auto)]
 ghost use Rattle.std.specs.Prelude.{◌≡◌, ◌+◌, ◌≤◌, ◌<◌, length, get_or};
 ghost use Rattle.run_lists.specs.EventList.{record_at, record_count};
 ghost use Rattle.run_lists.specs.Trails.{Trails};
@@ -29,7 +30,7 @@ pub const OF_SECOND: u32 = 16;
 pub const NODES_DIFFER: u32 = 28;
 
 // A verdict or a refusal; and the places, from 1, of two records a and b: p and q in the first list, r and s in the second. 0 where there is none.
-#[derive(Drop)]
+#[derive(Clone, Copy)]
 pub struct Finding {
     pub verdict: u32,
     pub p: u32,

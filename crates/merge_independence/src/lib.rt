@@ -1,4 +1,6 @@
 // Whether two steps are independent: the written list, (a) to (f), as a function.
+#![tactic(auto)]
+
 ghost use Rattle.std.specs.Prelude.{◌≡◌, [], ◌∷◌};
 ghost use Rattle.rules.specs.Queues.{has};
 ghost use Rattle.rules_exchange.specs.Independent as L;

@@ -1,4 +1,6 @@
 // A letter for each step, and a table of the letters that are independent: what a walk over many records asks at each of them.
+#![tactic(auto)]
+
 ghost use Rattle.std.specs.Prelude.{◌≡◌, ◌/◌, ◌%◌, ◌<◌, length};
 ghost use Rattle.merge_independence.specs.Asks.{event};
 ghost use Rattle.merge_letters.specs.Letters.{table_size, letter_of, may_pass, bit, TableFor};

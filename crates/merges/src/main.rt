@@ -1,4 +1,5 @@
 // Reads the merged log that its argument names, and prints whether every merge that the clocks allow accepts the same writes, or which pairs of records are in doubt.
+#![tactic(auto)]
 use files::Input;
 use libc::STDERR_FILENO;
 

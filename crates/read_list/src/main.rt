@@ -1,4 +1,5 @@
 // Reads an event list from standard input, and prints its steps as text; a refusal goes to standard error.
+#![tactic(auto)]
 use files::Input;
 
 fn room() -> [u8; list_text::LONGEST_TEXT] {

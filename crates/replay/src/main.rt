@@ -1,4 +1,5 @@
 // Reads an event list from standard input, runs it, and prints the answers and the accepted writes.
+#![tactic(auto)]
 use files::Input;
 
 fn main() {

@@ -1,4 +1,5 @@
 // Where two histories first differ, read from the buffers that two runs have filled.
+#![tactic(auto)]
 ghost use Rattle.std.specs.Prelude.{◌≡◌, ◌*◌, ◌≤◌, length, get_or};
 ghost use Rattle.rules.specs.Limits.{history_length};
 ghost use Rattle.run_lists.specs.Entries.{no_write};
@@ -8,7 +9,7 @@ ghost use Rattle.step_parts.specs.Hold.{hold_write};
 use step_parts::{Term, Write};
 
 // The place, from 1, of the first entry in which two histories differ, and that entry in each: 0 and 0 where a history has no such entry. All 0 where they agree.
-#[derive(Drop)]
+#[derive(Clone, Copy)]
 pub struct Parting {
     pub at: u32,
     pub one: Write,

@@ -1,1 +1,2 @@
 // What an auditor asks: two event lists that differ by exchanges of independent neighbours give the same run. Read specs/, SameRun first.
+#![tactic(auto)]

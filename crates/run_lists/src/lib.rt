@@ -1,4 +1,6 @@
 // Reading an event list, and writing and reading the entries of the history behind the answers.
+#![tactic(auto)]
+
 ghost use Rattle.std.specs.Prelude.{◌≡◌, ◌+◌, ◌*◌, ◌≤◌, ◌<◌, length};
 ghost use Rattle.std.proofs.lemmas.List.Edits.{sets};
 ghost use Rattle.run_lists.specs.EventList.{byte_at, number_at, refusal, event_at, record_at, first_record, entry_bytes};
@@ -72,7 +74,7 @@ fn refusal(list: &[u8]) -> u8
 }
 
 // What the trailer says; all 0 beside a refusal.
-#[derive(Drop)]
+#[derive(Clone, Copy)]
 pub struct Trailer {
     pub code: u8,
     pub first: usize,
@@ -127,14 +129,14 @@ pub fn trailer_bytes(records: usize, nodes: u8) -> [u8; TRAILER_LENGTH]
 
 // ---- the records
 
-#[derive(Drop)]
+#[derive(Clone, Copy)]
 pub struct Record {
     pub kind: u8,
     pub node: u8,
 }
 
 // The reader: the lent bytes and its place.
-#[derive(Drop)]
+#[derive(Clone, Copy)]
 pub struct Reader<'a> {
     pub src: &'a [u8],
     pub at: usize,

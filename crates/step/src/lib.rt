@@ -1,4 +1,5 @@
 // The public functions on a whole state: a step, the fresh state, the open streams.
+#![tactic(auto)]
 ghost use Rattle.std.specs.Prelude.{◌≡◌, true, ◌<◌};
 ghost use Rattle.rules.specs.Limits.{history_length};
 ghost use Rattle.step.specs.Public.{stepped, freshened, reported};
@@ -8,14 +9,14 @@ use step_parts::{Term, Write};
 use step_state::{Body, History, Moved, State};
 
 // A state with the answer that led to it.
-#[derive(Drop)]
+#[derive(Clone, Copy)]
 pub struct Stepped {
     pub code: u8,
     pub state: State,
 }
 
 // The open streams: bit n - 1 of the word is set for an open stream of node n, and the number is how many are.
-#[derive(Drop)]
+#[derive(Clone, Copy)]
 pub struct Report {
     pub code: u8,
     pub word: u32,

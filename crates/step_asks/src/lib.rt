@@ -1,9 +1,11 @@
 // A step that is asked for: which part of the state it concerns, whether it exists, and whether the switch runs after it.
+#![tactic(auto)]
+
 ghost use Rattle.std.specs.Prelude.{◌≡◌};
 ghost use Rattle.step_asks.specs.Groups.{row_kind, at_row, at_desk, existence, runs_after};
 
 // A step that is asked for, with the node count and whether the switch runs.
-#[derive(Drop)]
+#[derive(Clone, Copy)]
 pub struct Ask {
     pub count: u8,
     pub running: bool,

@@ -1,5 +1,6 @@
 // What a step answers, and what it leaves, group by group and on no more than it concerns: kinds 3 to 8 and 11 a node and its stream, kinds 1 and 2
 // the service and all nodes, kinds 9, 10, 12 and 13 the switch and all streams. An answer only reads; what is left is asked for where it is 0.
+#![tactic(auto)]
 ghost use Rattle.std.specs.Prelude.{◌≡◌, ◌≢◌, cond};
 ghost use Rattle.rules.specs.Codes.{step_done, not_allowed};
 ghost use Rattle.rules.specs.Rules.{learns};
@@ -16,7 +17,7 @@ use step_parts::{Mastership, Term};
 use step_state::{Board, Claims, Controller, Stream};
 
 // The write of a step, where it accepted one.
-#[derive(Drop)]
+#[derive(Clone, Copy)]
 pub struct MaybeWrite {
     pub accepted: bool,
     pub node: u8,
@@ -24,7 +25,7 @@ pub struct MaybeWrite {
 }
 
 // What a step at a row leaves of it: all but Learn, which is the node's alone.
-#[derive(Drop)]
+#[derive(Clone, Copy)]
 pub struct Row {
     pub stream: Stream,
     pub says: bool,

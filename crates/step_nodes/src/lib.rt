@@ -1,4 +1,6 @@
 // What a controller node does: kinds 3 to 7. Each kind has a test or an answer code, which only reads, and an effect.
+#![tactic(auto)]
+
 ghost use Rattle.std.specs.Prelude.{◌≡◌, false, leb};
 ghost use Rattle.rules.specs.Limits.{queue_length};
 ghost use Rattle.rules.specs.Rules.{learn_rule, send_update_rule, receive_update_rule, send_write_rule, is_write, is_ok};

@@ -1,4 +1,6 @@
 // What the state is made of: terms, election ids, accepted writes, masterships, messages and their queues.
+#![tactic(auto)]
+
 ghost use Rattle.std.specs.Prelude.{◌≡◌, ◌≤◌, leb, []};
 ghost use Rattle.rules.specs.Limits.{top_id, queue_length};
 ghost use Rattle.rules.specs.Range.{within};
@@ -82,15 +84,15 @@ pub fn is_node(count: u8, node: u8) -> bool
 }
 
 // A term of the election service.
-#[derive(Drop)]
+#[derive(Clone, Copy)]
 pub struct Term(pub u16);
 
 // An election id, as the switch compares them.
-#[derive(Drop)]
+#[derive(Clone, Copy)]
 pub struct ElectionId(pub u32);
 
 // An accepted write.
-#[derive(Drop)]
+#[derive(Clone, Copy)]
 pub struct Write {
     pub node: u8,
     pub term: Term,
@@ -121,7 +123,7 @@ pub fn term_of(count: u8, id: ElectionId) -> Term
 }
 
 // A mastership: what the service holds, what an event says, what a node learned. Master 0 is none.
-#[derive(Drop)]
+#[derive(Clone, Copy)]
 pub struct Mastership {
     pub term: Term,
     pub master: u8,
@@ -175,14 +177,14 @@ impl Mastership {
 }
 
 // What a message on a stream is about. Nothing stands at an unused place.
-#[derive(Drop)]
+#[derive(Clone, Copy)]
 pub enum Message {
     Nothing,
     Update,
     Write,
 }
 
-#[derive(Drop)]
+#[derive(Clone, Copy)]
 pub enum Status {
     Nothing,
     Ok,
@@ -191,7 +193,7 @@ pub enum Status {
     PermissionDenied,
 }
 
-#[derive(Drop)]
+#[derive(Clone, Copy)]
 pub struct Request {
     pub message: Message,
     pub id: ElectionId,
@@ -210,7 +212,7 @@ impl Request {
     }
 }
 
-#[derive(Drop)]
+#[derive(Clone, Copy)]
 pub struct Response {
     pub message: Message,
     pub status: Status,
@@ -230,7 +232,7 @@ impl Response {
 }
 
 // The events that a node has yet to learn.
-#[derive(Drop)]
+#[derive(Clone, Copy)]
 pub struct EventQueue {
     pub items: [Mastership; 8],
     pub len: u8,
@@ -286,7 +288,7 @@ impl EventQueue {
 }
 
 // The requests that the switch has yet to handle.
-#[derive(Drop)]
+#[derive(Clone, Copy)]
 pub struct RequestQueue {
     pub items: [Request; 8],
     pub len: u8,
@@ -342,7 +344,7 @@ impl RequestQueue {
 }
 
 // The responses that a node has yet to receive.
-#[derive(Drop)]
+#[derive(Clone, Copy)]
 pub struct ResponseQueue {
     pub items: [Response; 8],
     pub len: u8,

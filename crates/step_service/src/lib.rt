@@ -1,4 +1,6 @@
 // The election service: kinds 1 and 2. Each has an answer code, which only reads, and its effects: the service's mastership and the post.
+#![tactic(auto)]
+
 ghost use Rattle.std.specs.Prelude.{◌≡◌, true, cond, map, ◌+◌, ◌≤◌};
 ghost use Rattle.rules.specs.Codes.{step_done, queue_full};
 ghost use Rattle.rules.specs.Limits.{most_nodes};

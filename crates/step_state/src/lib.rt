@@ -1,4 +1,6 @@
 // The state as the code holds it: rows in arrays of eight, of which the first `count` are in use.
+#![tactic(auto)]
+
 ghost use Rattle.std.specs.Prelude.{◌≡◌, ℕ, ◌≤◌};
 ghost use Rattle.rules.specs.Limits.{most_nodes};
 ghost use Rattle.rules.specs.Queues.{before};
@@ -11,7 +13,7 @@ ghost use Rattle.step_state.specs.Stores.{pack_board, closed_stream, bare};
 use step_parts::{ElectionId, EventQueue, Mastership, RequestQueue, ResponseQueue, Term, Write};
 
 // A controller node. `says` is the flag "device says master".
-#[derive(Drop)]
+#[derive(Clone, Copy)]
 pub struct Controller {
     pub events: EventQueue,
     pub learned: Mastership,
@@ -19,7 +21,7 @@ pub struct Controller {
 }
 
 // A stream between a node and the switch; `sent` is the term last sent on it.
-#[derive(Drop)]
+#[derive(Clone, Copy)]
 pub struct Stream {
     pub opened: bool,
     pub sent: Term,
@@ -28,14 +30,14 @@ pub struct Stream {
 }
 
 // Whom ids elect: the switch's master, 0 for none, and the largest id.
-#[derive(Drop)]
+#[derive(Clone, Copy)]
 pub struct Elected {
     pub master: u8,
     pub largest: ElectionId,
 }
 
 // What the switch holds: an election id and a term for each node, whom the ids elect, and the last accepted term.
-#[derive(Drop)]
+#[derive(Clone, Copy)]
 pub struct Claims {
     pub ids: [ElectionId; 8],
     pub terms: [Term; 8],
@@ -44,7 +46,7 @@ pub struct Claims {
 }
 
 // What one role owns.
-#[derive(Drop)]
+#[derive(Clone, Copy)]
 pub struct Core {
     pub service: Mastership,
     pub controllers: [Controller; 8],
@@ -52,13 +54,13 @@ pub struct Core {
     pub claims: Claims,
 }
 
-#[derive(Drop)]
+#[derive(Clone, Copy)]
 pub struct History {
     pub items: [Write; 1024],
     pub len: u16,
 }
 
-#[derive(Drop)]
+#[derive(Clone, Copy)]
 pub struct State {
     pub count: u8,
     pub running: bool,
@@ -67,14 +69,14 @@ pub struct State {
 }
 
 // The switch's board, the streams and what it holds of their nodes: what Close, Handle update and Shutdown write.
-#[derive(Drop)]
+#[derive(Clone, Copy)]
 pub struct Board {
     pub streams: [Stream; 8],
     pub claims: Claims,
 }
 
 // The state without its history: what a step carries about.
-#[derive(Drop)]
+#[derive(Clone, Copy)]
 pub struct Body {
     pub count: u8,
     pub running: bool,
@@ -82,7 +84,7 @@ pub struct Body {
 }
 
 // The same as one struct, as a run holds it: every step stores into it where it stands.
-#[derive(Drop)]
+#[derive(Clone, Copy)]
 pub struct Table {
     pub count: u8,
     pub running: bool,
@@ -93,7 +95,7 @@ pub struct Table {
 }
 
 // What a step leaves: its answer, the state, and the accepted write's term, where there is one.
-#[derive(Drop)]
+#[derive(Clone, Copy)]
 pub struct Moved {
     pub code: u8,
     pub body: Body,

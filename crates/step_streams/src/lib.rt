@@ -1,4 +1,6 @@
 // Whom a changed id elects, and the switch's streams: which are open, what they are told, and what waits on them.
+#![tactic(auto)]
+
 ghost use Rattle.std.specs.Prelude.{◌≡◌, ◌≤◌};
 ghost use Rattle.rules.specs.Limits.{most_nodes};
 ghost use Rattle.rules.specs.Queues.{first};

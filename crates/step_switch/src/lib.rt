@@ -1,5 +1,7 @@
 // The switch's steps that concern all streams: kinds 9 and 10.
 // A step is two functions: one gives its answer code and only reads, the other does what is to be done where the code is 0.
+#![tactic(auto)]
+
 ghost use Rattle.std.specs.Prelude.{◌≡◌, true};
 ghost use Rattle.rules.specs.Part.{decide};
 ghost use Rattle.rules.specs.Rules as R;

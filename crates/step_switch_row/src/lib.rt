@@ -1,5 +1,7 @@
 // The switch's steps at one stream: Connect and Handle write, kinds 8 and 11. A step is two functions: one gives its answer code and only reads, the
 // other does what is to be done where the code is 0.
+#![tactic(auto)]
+
 ghost use Rattle.std.specs.Prelude.{◌≡◌, true, ◌≤◌, leb};
 ghost use Rattle.rules.specs.Limits.{most_nodes};
 ghost use Rattle.rules.specs.Part.{decide};
@@ -37,7 +39,7 @@ pub fn connect(stream: Stream) -> Stream
 }
 
 // A write that was handled. `term` is that of the request where it was accepted, and 0 else.
-#[derive(Drop)]
+#[derive(Clone, Copy)]
 pub struct Handled {
     pub stream: Stream,
     pub last: Term,

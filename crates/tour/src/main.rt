@@ -7,12 +7,13 @@
 //     =W0  =T0      the accepted write at place 0: its node, and its term
 //     =I0           the election id that the switch holds at place 0: node 1's
 //     =M0  =L0      the switch's master, and the largest id
+#![tactic(auto)]
 use files::Input;
 use step::Report;
 use step_state::{Claims, History, State};
 
 // A number, and the state from then on.
-#[derive(Drop)]
+#[derive(Clone, Copy)]
 struct Shown {
     number: u64,
     state: State,

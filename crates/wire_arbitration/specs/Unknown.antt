@@ -14,9 +14,13 @@ use Rattle.wire_arbitration.specs.Merge.{unknown, is_scalar, unknown_in, Fields}
 
 none_of : (a b c : Bool) (r s t z : Reading Update) → T (not (a || b || c)) → cond a r (cond b s (cond c t z)) ≡ z
 none_of false false false r s t z h = refl
+none_of false false true r s t z h = elim h [ ]
+none_of false true c r s t z h = elim h [ ]
+none_of true b c r s t z h = elim h [ ]
 
 not-this : (b : Bool) (value : ℕ) (old : Option ℕ) → T (not b) → cond b (some value) old ≡ old
 not-this false value old h = refl
+not-this true value old h = elim h [ ]
 
 not_scalar : (n : ℕ) (f : Field) → T (not (is_scalar n f)) → (old : Option ℕ) → scalar n f old ≡ old
 not_scalar n (varint k value) h old = not-this (eqb k n) value old h

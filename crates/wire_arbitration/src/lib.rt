@@ -1,4 +1,6 @@
 // Reads MasterArbitrationUpdate of p4runtime.proto, release 1.0.0, in protobuf's wire format.
+#![tactic(auto)]
+
 ghost use Rattle.std.specs.Prelude.{◌≡◌, ◌≤◌, length};
 ghost use Rattle.wire_fields.specs.Messages.{message};
 ghost use Rattle.wire_fields.specs.Places.{field_at, field_of};
@@ -12,7 +14,7 @@ use wire_fields::Field;
 // ---- embedded messages
 
 // The numbers of fields 1 and 2. Both are 0 beside a fault.
-#[derive(Drop)]
+#[derive(Clone, Copy)]
 pub struct Pair {
     pub code: u8,
     pub first: u64,
@@ -21,7 +23,7 @@ pub struct Pair {
 
 // What a message has said so far: of each embedded message whether it is present, and the last of each scalar, 0 if there is none. `error` is the status
 // code as it stands on the wire. All is 0 beside a fault.
-#[derive(Drop)]
+#[derive(Clone, Copy)]
 pub struct Raw {
     pub code: u8,
     pub role: bool,
@@ -224,27 +226,27 @@ pub fn read_raw(message: &[u8]) -> Raw
 
 // ---- what is reported
 
-#[derive(Drop)]
+#[derive(Clone, Copy)]
 pub struct Role {
     pub present: bool,
     pub id: u64,
 }
 
-#[derive(Drop)]
+#[derive(Clone, Copy)]
 pub struct ElectionId {
     pub present: bool,
     pub high: u64,
     pub low: u64,
 }
 
-#[derive(Drop)]
+#[derive(Clone, Copy)]
 pub struct Status {
     pub present: bool,
     pub code: i32,
 }
 
 // What a message says. Absent scalars are 0; beside a refusal all is 0 and nothing is present.
-#[derive(Drop)]
+#[derive(Clone, Copy)]
 pub struct Arbitration {
     pub code: u8,
     pub device: u64,

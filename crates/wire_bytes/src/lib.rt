@@ -1,4 +1,6 @@
 // The fields of an arbitration message as forty bytes, for hosts that take numbers and bytes.
+#![tactic(auto)]
+
 ghost use Rattle.std.specs.Prelude.{◌≡◌, [], ◌∷◌};
 ghost use Rattle.any_text.specs.Put.{Room, Put};
 ghost use Rattle.wire_bytes.specs.Bytes.{little, flag, number_bytes, flag_bytes, field_bytes, reported};

@@ -1,4 +1,5 @@
 // Protobuf's wire format: numbers, tags and fields, read at a place of a message.
+#![tactic(auto)]
 ghost use Rattle.std.specs.Prelude.{◌≡◌, ◌*◌, ◌%◌, ◌^◌, ◌<◌, ◌≤◌, length, drop};
 ghost use Rattle.wire_fields.specs.Groups.{joined};
 ghost use Rattle.wire_fields.specs.Places.{first_byte, no_number, number_at, no_field, found_field, field_at};
@@ -19,7 +20,7 @@ const LAST_SHIFT: u64 = 63;
 // ---- numbers
 
 // What stands at a place: the number and the place behind it. Both are 0 beside a fault.
-#[derive(Drop)]
+#[derive(Clone, Copy)]
 pub struct Number {
     pub code: u8,
     pub value: u64,
@@ -100,7 +101,7 @@ const LAST_NUMBER: u64 = 536870911;
 
 // The field at a place: its number, its value if it holds a number, the place of its bytes if it holds bytes, and the place behind it. What does
 // not apply is 0, and all is 0 beside a fault.
-#[derive(Drop)]
+#[derive(Clone, Copy)]
 pub struct Field {
     pub code: u8,
     pub kind: u8,

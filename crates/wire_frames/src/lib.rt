@@ -1,4 +1,6 @@
 // Reads the frames of a captured gRPC stream, and the stream message of p4runtime.proto, release 1.0.0, in each.
+#![tactic(auto)]
+
 ghost use Rattle.std.specs.Prelude.{◌≡◌, ◌≤◌, length};
 ghost use Rattle.wire_fields.specs.Places.{field_of};
 ghost use Rattle.wire_frames.specs.Stream.{carried};
@@ -30,7 +32,7 @@ const LAST_OTHER: u64 = 5;
 
 // What a frame carries: why it is refused, or READ; the alternative; the frame's bytes with its head; and the fields of an arbitration message, if it
 // carries one. What does not apply is 0, and all is 0 beside a refusal.
-#[derive(Drop)]
+#[derive(Clone, Copy)]
 pub struct Frame {
     pub code: u8,
     pub kind: u8,

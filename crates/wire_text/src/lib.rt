@@ -1,4 +1,6 @@
 // What the program `arbitration` prints for a message, as one text.
+#![tactic(auto)]
+
 ghost use Rattle.std.specs.Prelude.{◌≤◌, length};
 ghost use Rattle.any_text.specs.Put.{Room, Put};
 ghost use Rattle.wire_arbitration.specs.Arbitration.{low32};

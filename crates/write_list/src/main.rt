@@ -1,4 +1,5 @@
 // Reads steps in text from standard input, and writes their event list to standard output; a refusal goes to standard error.
+#![tactic(auto)]
 use files::Input;
 
 // One byte more than the longest text, so that a longer one is seen.

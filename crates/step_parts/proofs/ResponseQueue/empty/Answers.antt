@@ -1,0 +1,4 @@
+use Rattle.step_parts.proofs.ResponseQueue.empty.Goals as goal
+
+pub returns : goal.returns
+returns c = simp c.blank-blank.ensures

@@ -1,0 +1,13 @@
+use mathlib.Core.Path.{◌≡◌}
+use Prim.Native.Nat.{◌-◌}
+use lib.ListN.{length}
+use Rattle.wire_fields.specs.Messages.{message}
+use Rattle.wire_fields.specs.Walking.{Walking}
+use Rattle.wire_arbitration.specs.Raw.{see}
+use Rattle.wire_arbitration.proofs.read_onto.Given as goal
+
+abbrev pub invariant-loop-at : goal.invariant-loop-at
+invariant-loop-at l = Walking see l.message l.initial.u l.u l.at × (l.u.code ≡ 0)
+
+abbrev pub decreases-loop-at : goal.decreases-loop-at
+decreases-loop-at l = length l.message - l.at

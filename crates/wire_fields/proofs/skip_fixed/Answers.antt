@@ -1,0 +1,13 @@
+use mathlib.Core.Path.{◌∙◌}
+use Prim.Native.Nat.{◌-◌}
+use native.Mathlib.Omega.{arith}
+use Rattle.wire_fields.specs.Found.{fixed-field, part-short}
+use Rattle.wire_fields.specs.Numbers.{taken}
+use Rattle.wire_fields.specs.Fields.{fixed}
+use Rattle.wire_fields.proofs.skip_fixed.Goals as goal
+
+pub returns-then-size-message : goal.returns-then-size-message
+returns-then-size-message c = fixed-field _ _ _ c.requires (omega arith) _
+
+pub returns : goal.returns
+returns c = c.no_field.ensures ∙ part-short _ _ _ c.requires (omega arith) (λ held rest. taken (fixed _) rest)
