@@ -15,9 +15,9 @@ use Rattle.run_lists.specs.EventList.{node_count, record_count, record_at, recor
 use Rattle.run_lists.specs.Good.{records-length}
 use Rattle.run.specs.Refusing.{ran-short}
 use Rattle.run_exchange.specs.Exchanges.{swaps-length}
-use Rattle.run_exchange.specs.Audit.{audit}
+use Rattle.run_exchange.proofs.Audit.{audit}
 use Rattle.merge_verdict.specs.Verdict.{Exchanges, Pulled, taken, blocked, missing, met, pull, when_taken, exchangeable, same_event, Independent, same_merge}
-use Rattle.merge_verdict.specs.Exact.{exact}
+use Rattle.merge_verdict.proofs.Exact.{exact}
 use Rattle.merge_compare.specs.declared.Finding.{Finding}
 use Rattle.any_search.specs.Places.{from, seek}
 use Rattle.merge_compare.specs.Compare.{same, free, equal, obstacle, looked, compare}

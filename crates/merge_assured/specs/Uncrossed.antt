@@ -7,8 +7,8 @@ use Rattle.run_lists.specs.EventList.{node_count, record_count, record_at, recor
 use Rattle.merge_verdict.specs.Verdict.{same_event}
 use Rattle.merge_verdict.specs.Pairs.{kept, only_pair}
 use Rattle.merge_verdict.specs.Steps.{same_refl}
-use Rattle.merge_verdict.specs.Exact.{exact}
-use Rattle.merge_verdict.specs.Projections.{verdict-by-pairs}
+use Rattle.merge_verdict.proofs.Exact.{exact}
+use Rattle.merge_verdict.proofs.Projections.{verdict-by-pairs}
 use Rattle.merge_letters.specs.Letters.{bit}
 use Rattle.merge_assured.specs.Assured.{times, SameUncrossed}
 use Rattle.merge_assured.specs.Times.{times_more, times-grow, times-passed}
