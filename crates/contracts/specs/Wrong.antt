@@ -4,7 +4,7 @@ use Rattle.std.proofs.Common.{◌∙◌}
 use Rattle.std.specs.Prelude.{◌≢◌, ℕ, ◌+◌, ◌≤◌, ◌<◌, T, length, replicate}
 use mathlib.Core.List.{List, [], ◌∷◌}
 use native.Mathlib.Omega.{arith}
-use Rattle.std.specs.Borrow.{Bor}
+use Rattle.std.specs.Borrow.{Bor, MutBor}
 use Rattle.std.proofs.Math.ListN.{get_or}
 use Rattle.rules.specs.State as S
 use Rattle.rules.specs.Range.{in_range}
@@ -103,12 +103,15 @@ Runs f = (list out : List ℕ) → RunMay (list, out) (f list out).returned (f l
 abbrev bytes : List ℕ → Bor (List ℕ)
 bytes l = record { ref_ptr = (0, 0); now = l }
 
+abbrev buffer : List ℕ → MutBor (List ℕ)
+buffer l = record { ref_ptr = (0, 0); ghost_name = 0; now = l }
+
 -- The right one does.
 pub right-runs : Runs ran
 right-runs list out = record {
   lifetimes = ([], ([], tt));
-  arguments = (bytes list, (bytes out, tt));
-  exit = (bytes list, (bytes (ran list out).out, tt));
+  arguments = (bytes list, (buffer out, tt));
+  exit = (bytes list, (buffer (ran list out).out, tt));
   is-given = refl;
   leaves = refl;
   met = (refl, refl);
