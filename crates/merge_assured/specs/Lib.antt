@@ -1,5 +1,5 @@
 -- Believed: Assured.
--- Laws: Times, Meaning, Blocked, Sorts, Sample.
+-- Laws: Times, Meaning, Blocked, Sorts, Sample; and in proofs/, where what is assured is shown: Keeps, Meaning, Names, Uncrossed.
 pub mod Assured
 pub mod Times
 pub mod Meaning

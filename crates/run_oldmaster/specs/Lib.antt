@@ -1,4 +1,4 @@
 -- Believed: Held.
--- Laws: Numbers.
+-- Laws: Numbers; and in proofs/: Read.
 pub mod Held
 pub mod Numbers

@@ -1,6 +1,6 @@
 -- Believed: Update, Seen, Arbitration, Merge.
 -- Definitions: Raw.
--- Laws: Choices, Unknown, Seeing, Signed, Sample.
+-- Laws: Choices, Unknown, Seeing, Signed, Sample; and in proofs/, where `scalar` is used: Concatenation, Seeing.
 pub mod Update
 pub mod Seen
 pub mod Arbitration
