@@ -43,4 +43,3 @@ module _ {A : Type 0} where
   all-member P x [] h x3 = elim x3 [ ]
   all-member P x (y ∷ l) h (Memᴰ.head e) = rw e h.0
   all-member P x (y ∷ l) h (Memᴰ.tail m) = all-member P x l h.1 m
-  all-member P x [] h x3 = elim x3 [ ]
