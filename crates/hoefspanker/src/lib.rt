@@ -1,5 +1,6 @@
 // The calls for a C host: see include/hoefspanker.h.
 #![tactic(auto)]
+
 ghost use Rattle.std.specs.Prelude.{◌≡◌};
 ghost use Rattle.wire_bytes.specs.Bytes.{reported};
 ghost use Rattle.run.specs.Ran.{ran};

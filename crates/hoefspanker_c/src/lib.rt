@@ -1,5 +1,6 @@
 // The calls of the crate hoefspanker for a C host, each with the clauses that it has there: see include/hoefspanker.h.
 #![tactic(auto)]
+
 ghost use Rattle.std.specs.Prelude.{◌≡◌};
 ghost use Rattle.wire_bytes.specs.Bytes.{reported};
 ghost use Rattle.run.specs.Ran.{ran};
