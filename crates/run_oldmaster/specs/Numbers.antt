@@ -21,7 +21,7 @@ numbers so_far (b ∷ l) = cond (leb (digit 0) b && leb b (digit 9)) (numbers (1
 digits-read : (so_far : ℕ) (l rest : List ℕ) → Digits l → numbers so_far (l ++ rest) ≡ numbers (said_after so_far l) rest
 unfolding numbers
 digits-read so_far l rest end = refl
-digits-read so_far l rest (next {d} {l = k} h r) = rw (le-leb (digit 0) (digit d) (omega arith), le-leb (digit d) (digit 9) (omega arith)) (digits-read _ k rest r)
+digits-read so_far l rest (next {d} {l = k} h r) = rw (le-leb (digit 0) (digit d) (omega arith), le-leb (digit d) (digit 9) (omega arith)) (digits-read (10 * so_far + (digit d - digit 0)) k rest r)
 
 -- A text shows these numbers, whatever stands behind it.
 record Shows (text shown : List ℕ) : Type 0 where
