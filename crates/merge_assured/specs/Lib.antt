@@ -1,5 +1,5 @@
 -- Believed: Assured.
--- Laws: Times, Meaning, Blocked, Sorts, Sample; and in proofs/, where what is assured is shown: Keeps, Meaning, Names, Uncrossed.
+-- Laws: Times, Meaning, Blocked, Sorts, Sample.
 pub mod Assured
 pub mod Times
 pub mod Meaning

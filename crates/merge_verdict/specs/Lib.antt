@@ -1,5 +1,5 @@
 -- Believed: Verdict, Pairs, Clocks, Own.
--- Laws: Steps, Chains, Kept; and in proofs/, where the verdict and the clocks are used: Exact, Projections, Merging, Passing, Owned.
+-- Laws: Steps, Chains, Kept.
 pub mod Verdict
 pub mod Pairs
 pub mod Clocks

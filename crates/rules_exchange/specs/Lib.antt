@@ -1,5 +1,5 @@
 -- Believed: Independent, Claim.
--- Laws: Apart, Parts, Listed, Commutes, Examples; and in proofs/, where the list is used: Listed, Exchange.
+-- Laws: Apart, Parts, Listed, Commutes, Examples.
 pub mod Independent
 pub mod Claim
 pub mod Apart

@@ -1,6 +1,6 @@
 -- Believed: KeptOut.
 -- Definitions: Change, Invariant.
--- Laws: Growing, Mistakes; and in proofs/, where a change is used: Invariant, Steps, OldMaster.
+-- Laws: Growing, Mistakes.
 pub mod KeptOut
 pub mod Change
 pub mod Invariant

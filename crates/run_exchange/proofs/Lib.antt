@@ -1,4 +1,3 @@
--- Believed: Merged.
--- Laws: Audit.
+-- Laws: Audit, Merged.
 pub mod Audit
 pub mod Merged

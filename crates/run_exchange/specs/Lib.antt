@@ -1,5 +1,5 @@
--- Believed: SameRun, Merged (and `merged` in proofs/Merged).
--- Laws: Exchanges, Buffers; and in proofs/: Audit.
+-- Believed: SameRun, Merged.
+-- Laws: Exchanges, Buffers.
 pub mod SameRun
 pub mod Exchanges
 pub mod Buffers

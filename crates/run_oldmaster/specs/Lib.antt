@@ -1,4 +1,4 @@
 -- Believed: Held.
--- Laws: Numbers; and in proofs/: Read.
+-- Laws: Numbers.
 pub mod Held
 pub mod Numbers

@@ -1,6 +1,6 @@
 -- Believed: Update, Seen, Arbitration, Merge.
 -- Definitions: Raw.
--- Laws: Choices, Unknown, Seeing, Signed, Sample; and in proofs/, where `scalar` is used: Concatenation, Seeing.
+-- Laws: Choices, Unknown, Seeing, Signed, Sample.
 pub mod Update
 pub mod Seen
 pub mod Arbitration
