@@ -1,5 +1,6 @@
 // Reads the frames of a captured stream from standard input, one after another, and prints what each carries.
 #![tactic(auto)]
+
 ghost use Rattle.std.specs.Prelude.{◌≤◌, length};
 
 use files::Input;
@@ -20,11 +21,11 @@ enum Next {
 }
 
 // Reads a frame into the buffer, its head first.
-fn read_next(space: &mut [u8]) -> Next
+fn read_next(rt: &HostRuntime, space: &mut [u8]) -> Next
     requires { 5 ≤ length space.old }
 {
     let head = wire_frames::HEAD;
-    let Input::Whole(n) = files::read_input(&mut space[..head]) else {
+    let Input::Whole(n) = files::read_input(rt, &mut space[..head]) else {
         return Next::Failed;
     };
     if n == 0 {
@@ -35,7 +36,7 @@ fn read_next(space: &mut [u8]) -> Next
         return Next::Read(wire_frames::refused(TOO_LONG));
     }
     let end = head + held;
-    let Input::Whole(more) = files::read_input(&mut space[head..end]) else {
+    let Input::Whole(more) = files::read_input(rt, &mut space[head..end]) else {
         return Next::Failed;
     };
     let all = n + more;
@@ -43,42 +44,42 @@ fn read_next(space: &mut [u8]) -> Next
 }
 
 // Prints the text of a frame, and answers whether to go on: not after a refusal, and not where the text could not be written.
-fn printed(number: u64, offset: u64, frame: Frame) -> bool {
+fn printed(rt: &HostRuntime, number: u64, offset: u64, frame: Frame) -> bool {
     let mut text = [0u8; wire_frames_text::LONGEST_TEXT];
     let length = wire_frames_text::shown(number, offset, frame, &mut text);
-    if files::print(&text[..length]) {
+    if files::print(rt, &text[..length]) {
         return frame.code == wire_fields::READ;
     }
     false
 }
 
-fn print_end(number: u64) {
+fn print_end(rt: &HostRuntime, number: u64) {
     let mut text = [0u8; wire_frames_text::LONGEST_TEXT];
     let length = wire_frames_text::ended(number, &mut text);
-    files::print(&text[..length]);
+    files::print(rt, &text[..length]);
 }
 
-fn main() {
+fn main(rt: HostRuntime) {
     let mut room = [0u8; ROOM];
     let space: &mut [u8] = &mut room;
     let mut number: u64 = 0;
     let mut offset: u64 = 0;
     while number < 0xFFFF_FFFF_FFFF_FFFF {
-        let next = read_next(space);
+        let next = read_next(&rt, space);
         match next {
             Next::Failed => {
                 return;
             }
             Next::End => {
-                print_end(number);
+                print_end(&rt, number);
                 return;
             }
             Next::Read(frame) => {
                 number += 1;
-                if !printed(number, offset, frame) {
+                if !printed(&rt, number, offset, frame) {
                     return;
                 }
-                offset = std::num::wrapping_add_u64(offset, frame.size as u64);
+                offset = offset.wrapping_add(frame.size as u64);
             }
         }
     }

@@ -1,15 +1,16 @@
 // Reads an event list from standard input, and prints its steps as text; a refusal goes to standard error.
 #![tactic(auto)]
+
 use files::Input;
 
 fn room() -> [u8; list_text::LONGEST_TEXT] {
     [0u8; list_text::LONGEST_TEXT]
 }
 
-fn main() {
+fn main(rt: HostRuntime) {
     // One byte more than the longest list, so that a longer one is seen.
     let mut list = [0u8; run_lists::LONGEST + 1];
-    let Input::Whole(n) = files::read_source(&mut list) else {
+    let Input::Whole(n) = files::read_source(&rt, &mut list) else {
         return;
     };
     let mut text = room();
@@ -17,6 +18,6 @@ fn main() {
     let printed = list_text::text_of(&list[..n], &mut text, &mut line);
     let out = printed.out;
     let said = printed.line;
-    files::print(&text[..out]);
-    files::warn(&line[..said]);
+    files::print(&rt, &text[..out]);
+    files::warn(&rt, &line[..said]);
 }

@@ -8,7 +8,9 @@
 //     =I0           the election id that the switch holds at place 0: node 1's
 //     =M0  =L0      the switch's master, and the largest id
 #![tactic(auto)]
+
 use files::Input;
+use std::fmt::InlineText;
 use step::Report;
 use step_state::{Claims, History, State};
 
@@ -91,16 +93,12 @@ fn answer(state: State, what: u8, n: u8) -> Shown {
 }
 
 // Whether both could be printed.
-fn printed(text: &[u8], number: u64) -> bool {
-    let mut digits = [0u8; 20];
-    let k = io::decimal(number, &mut digits);
-    if files::print(text) {
-        return files::print(&digits[..k]);
-    }
-    false
+fn printed(rt: &HostRuntime, text: &[u8], number: u64) -> bool {
+    let digits = InlineText::<20>::of(number);
+    files::print(rt, text) && files::print(rt, digits.as_str().as_bytes())
 }
 
-fn play(script: &[u8]) {
+fn play(rt: &HostRuntime, script: &[u8]) {
     let made = step::fresh(1);
     let mut state = made.state;
     let mut from: usize = 0;
@@ -108,7 +106,7 @@ fn play(script: &[u8]) {
     while i + 2 < script.len() {
         if script[i] == b'=' {
             let given = answer(state, script[i + 1], script[i + 2] & 15);
-            if !printed(&script[from..i], given.number) {
+            if !printed(rt, &script[from..i], given.number) {
                 return;
             }
             let next = given.state;
@@ -119,13 +117,13 @@ fn play(script: &[u8]) {
             i += 1;
         }
     }
-    files::print(&script[from..]);
+    files::print(rt, &script[from..]);
 }
 
-fn main() {
-    let mut script = io::buffer();
-    let Input::Whole(n) = files::read_input(&mut script) else {
+fn main(rt: HostRuntime) {
+    let mut script = [0u8; 4096];
+    let Input::Whole(n) = files::read_input(&rt, &mut script) else {
         return;
     };
-    play(&script[..n]);
+    play(&rt, &script[..n]);
 }

@@ -1,5 +1,6 @@
 // Reads steps in text from standard input, and writes their event list to standard output; a refusal goes to standard error.
 #![tactic(auto)]
+
 use files::Input;
 
 // One byte more than the longest text, so that a longer one is seen.
@@ -7,9 +8,9 @@ fn room() -> [u8; list_source::LONGEST + 1] {
     [0u8; list_source::LONGEST + 1]
 }
 
-fn main() {
+fn main(rt: HostRuntime) {
     let mut text = room();
-    let Input::Whole(n) = files::read_source(&mut text) else {
+    let Input::Whole(n) = files::read_source(&rt, &mut text) else {
         return;
     };
     let mut list = [0u8; run_lists::LONGEST];
@@ -17,6 +18,6 @@ fn main() {
     let printed = list_source::list_from(&text[..n], &mut list, &mut line);
     let out = printed.out;
     let said = printed.line;
-    files::print(&list[..out]);
-    files::warn(&line[..said]);
+    files::print(&rt, &list[..out]);
+    files::warn(&rt, &line[..said]);
 }
