@@ -1,5 +1,6 @@
 // From a text to an event list: what the program `write_list` prints.
 #![tactic(auto)]
+
 ghost use Rattle.std.specs.Prelude.{◌≡◌, List, ℕ, ◌+◌, ◌≤◌, length};
 ghost use Rattle.any_text.specs.Put.{Put};
 ghost use Rattle.any_text.specs.Printed.{Prints};

@@ -1,5 +1,6 @@
 // The pairs of records in a merged log that are in doubt, found one after another.
 #![tactic(auto)]
+
 ghost use Rattle.std.specs.Prelude.{◌≡◌, ◌+◌, ◌*◌, ◌≤◌, ◌<◌, length, take};
 ghost use Rattle.log_read.specs.Log.{most_records};
 ghost use Rattle.merge_letters.specs.Letters.{letter_of, TableFor};

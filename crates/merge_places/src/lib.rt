@@ -1,5 +1,6 @@
 // Taking the records of one list out of another: the places of the other list's records stand in a row, of which those from some place of the row on are left.
 #![tactic(auto)]
+
 ghost use Rattle.std.specs.Prelude.{◌≡◌, ◌≤◌, ◌<◌, length};
 ghost use Rattle.run_lists.specs.EventList.{record_at, record_count};
 ghost use Rattle.run_lists.specs.Reads.{event_of};

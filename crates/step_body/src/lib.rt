@@ -1,5 +1,6 @@
 // A step on a body, a state without its history: the answers in their order, and what is left.
 #![tactic(auto)]
+
 ghost use Rattle.std.specs.Prelude.{◌≡◌, true, false, List, ◌≤◌, length};
 ghost use Rattle.rules.specs.Limits.{most_nodes};
 ghost use Rattle.rules.specs.State as S;

@@ -1,6 +1,7 @@
 // What a step answers, and what it leaves, group by group and on no more than it concerns: kinds 3 to 8 and 11 a node and its stream, kinds 1 and 2
 // the service and all nodes, kinds 9, 10, 12 and 13 the switch and all streams. An answer only reads; what is left is asked for where it is 0.
 #![tactic(auto)]
+
 ghost use Rattle.std.specs.Prelude.{◌≡◌, ◌≢◌, cond};
 ghost use Rattle.rules.specs.Codes.{step_done, not_allowed};
 ghost use Rattle.rules.specs.Rules.{learns};

@@ -1,5 +1,6 @@
 // Whether a state is in range: the test whose no is code 1. Every place of every array is looked at.
 #![tactic(auto)]
+
 mod controllers;
 mod history;
 mod streams;

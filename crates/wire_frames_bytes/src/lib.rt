@@ -1,5 +1,6 @@
 // What a host that takes numbers and bytes is told of a frame of a capture.
 #![tactic(auto)]
+
 ghost use Rattle.std.specs.Prelude.{◌≡◌};
 ghost use Rattle.wire_frames_bytes.specs.Reply.{frame_reply};
 

@@ -1,5 +1,6 @@
 // What the program `captured` prints for a frame, as one text.
 #![tactic(auto)]
+
 ghost use Rattle.std.specs.Prelude.{◌+◌, ◌≤◌, length};
 ghost use Rattle.any_text.specs.Put.{Put};
 ghost use Rattle.wire_frames_text.specs.Shown.{carried_text, frame_text, end_text};

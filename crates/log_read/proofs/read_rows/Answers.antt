@@ -1,3 +1,4 @@
+use borrow.Author.Tests.{not-true, not-false}
 use mathlib.Core.Path.{◌∙◌}
 use Prim.Native.Nat.{◌-◌}
 use Rattle.any_text.specs.Puts.{put-length}
@@ -14,11 +15,11 @@ take_line-taken-requires c = (c.loop-at.invariant.few, put-length c.loop-at.inva
 
 -- src/lib.rt:216:13
 pub returns-then-not-taken : goal.returns-then-not-taken
-returns-then-not-taken c = going-stops c.loop-at.invariant c.loop-at-test.true c.next_byte-end.ensures c.line_of.ensures c.take_line-taken.ensures c.if-not-taken.true
+returns-then-not-taken c = going-stops c.loop-at.invariant c.loop-at-test.true c.next_byte-end.ensures c.line_of.ensures c.take_line-taken.ensures (not-true _ c.if-not-taken.true)
 
 -- src/lib.rt:212:5
 pub loop-at-preserved : goal.loop-at-preserved
-loop-at-preserved c = going_more c.loop-at.invariant c.loop-at-test.true c.next_byte-end.ensures c.line_of.ensures c.take_line-taken.ensures c.if-not-taken.false
+loop-at-preserved c = going_more c.loop-at.invariant c.loop-at-test.true c.next_byte-end.ensures c.line_of.ensures c.take_line-taken.ensures (not-false _ c.if-not-taken.false)
 
 -- src/lib.rt:205:1
 pub returns : goal.returns

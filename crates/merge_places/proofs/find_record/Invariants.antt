@@ -1,0 +1,12 @@
+use Prim.Native.Nat.{◌-◌}
+use Rattle.run_lists.specs.EventList.{record_at}
+use Rattle.run_lists.specs.Reads.{event_of}
+use Rattle.merge_verdict.specs.Verdict.{same_event}
+use Rattle.any_search.specs.Seek.{Seeking}
+use Rattle.merge_places.proofs.find_record.Given as goal
+
+abbrev pub invariant-loop-i : goal.invariant-loop-i
+invariant-loop-i l = Seeking (λ a. same_event (record_at l.first a) (event_of l.event)) l.start l.trailer.records l.i
+
+abbrev pub decreases-loop-i : goal.decreases-loop-i
+decreases-loop-i l = l.trailer.records - l.i
