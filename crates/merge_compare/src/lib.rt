@@ -1,6 +1,7 @@
 // Comparing two merges of the same logs: the records of the first list are taken, in turn, out of the second, each past those that are independent of it. The
 // places of the second list's records stand in a row; where one is taken, those before it that are left move up.
 #![tactic(auto)]
+
 ghost use Rattle.std.specs.Prelude.{◌≡◌, ◌+◌, ◌≤◌, ◌<◌, length, get_or};
 ghost use Rattle.run_lists.specs.EventList.{record_at, record_count};
 ghost use Rattle.run_lists.specs.Trails.{Trails};

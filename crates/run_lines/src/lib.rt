@@ -1,5 +1,6 @@
 // The lines of a run, put into a lent buffer: those of its records, of the number of writes, and of the writes.
 #![tactic(auto)]
+
 ghost use Rattle.std.specs.Prelude.{◌+◌, ◌*◌, ◌≤◌, length};
 ghost use Rattle.rules.specs.Limits.{history_length};
 ghost use Rattle.run_lists.specs.Trails.{Trails};

@@ -1,5 +1,6 @@
 // The public functions on a whole state: a step, the fresh state, the open streams.
 #![tactic(auto)]
+
 ghost use Rattle.std.specs.Prelude.{◌≡◌, true, ◌<◌};
 ghost use Rattle.rules.specs.Limits.{history_length};
 ghost use Rattle.step.specs.Public.{stepped, freshened, reported};

@@ -9,6 +9,7 @@ use Rattle.step_state.specs.declared.Body.{Body}
 use Rattle.step_state.specs.declared.Table.{Table}
 use Rattle.step_moves.specs.Sets.{with_board}
 use Rattle.step_moves.specs.Stored.{few, in-order-controllers}
+use Rattle.run_lists.specs.declared.Record.{Record}
 use Rattle.step_asks.specs.declared.Ask.{Ask}
 use Rattle.step_asks.specs.Groups.{at_row, at_desk}
 use Rattle.step_groups.specs.Called.{ask_of}
@@ -18,7 +19,7 @@ use Rattle.run.specs.Tables.{body_in, pending, settled, heard}
 use Rattle.run.specs.Running.{starts, keeps-length, ready, ends}
 use Rattle.run.specs.Turning.{Coded, of_row, of-desk, of-board, Turn, in-range, refused-way, at-row, asks-row, goes-row, learn-way, row_room, row-way, goes-desk, post-way, quiet-way, asks-board, goes-board, board-way, same_body, unposted}
 use Rattle.run.proofs.run_records.Goals as goal
-use Rattle.run.proofs.run_records.Goals.{After-read_record-event, At-loop-i, Else-at_desk-2, Else-at_row-2, Joined-at_row, Then-at_desk-2, Then-at_row, Then-at_row-2}
+use Rattle.run.proofs.run_records.Goals.{then-at_row, else-at_row+then-at_desk, else-at_row+else-at_desk, After-read_record-event, At-loop-i, Else-at_desk-2, Else-at_row-2, Joined-at_row, Then-at_desk-2, Then-at_row, Then-at_row-2}
 
 fresh-count : (n : ℕ) → (fresh n).count ≡ n
 unfolding fresh
@@ -36,50 +37,41 @@ long-as-lent l =
     let k = l.requires.trailer.records in
     keeps-length l.args.out.now l.requires l.loop-i.invariant.2 (omega arith)
 
-abbrev event-of : After-read_record-event → Event
-event-of r = record { kind = r.read_record-event.result.kind; node = r.read_record-event.result.node }
+abbrev event-of : Record → Event
+event-of r = record { kind = r.kind; node = r.node }
 
-abbrev table_of : After-read_record-event → Table
-table_of r = r.loop-i.table
+abbrev ask-of : Table → Record → Ask
+ask-of table r = ask_of (body_in table) r.kind r.node
 
-abbrev ask-of : After-read_record-event → Ask
-ask-of r = ask_of (body_in (table_of r)) (event-of r).kind (event-of r).node
-
-turn : (r : After-read_record-event) → Turn r.args.list.now r.args.trailer r.args.out.now r.loop-i.i r.loop-i.writes r.loop-i.out (table_of r) r.loop-i.reached (event-of r)
+turn : (r : After-read_record-event) → Turn r.args.list.now r.args.trailer r.args.out.now r.loop-i.i r.loop-i.writes r.loop-i.out r.loop-i.table r.loop-i.reached (event-of r.read_record-event.result)
 turn r =
     let k = r.requires.trailer.records in
     record { runs = r.requires; now = r.loop-i.invariant.2; all = omega arith; is = r.read_record-event.ensures; lt = omega arith }
 
 -- its answer, by its group
-coded : (j : Joined-at_row) → Coded (table_of j.before.before) (event-of j.before.before) j.loop-i.writes j.if-at_row.code
+coded : (j : Joined-at_row) → Coded j.loop-i.table (event-of j.read_record-event.result) j.loop-i.writes j.if-at_row.code
 coded j =
     let row = sym j.at_row.ensures in
-    ⊎_elim (λ x. of_row (row ∙ x.0.taken) (x.6 ∙ x.5.ensures))
-    (λ y. ⊎_elim (λ x. of-desk (row ∙ x.0.left) (sym x.1.ensures ∙ x.2.taken) (x.6 ∙ x.5.ensures))
-    (λ x. of-board (row ∙ x.0.left) (sym x.1.ensures ∙ x.2.left) (x.6 ∙ x.5.ensures)) y)
-    j.if-at_row.branch
+    elim j.if-at_row.branch [
+      then-at_row x ↦ of_row (row ∙ x.if-at_row.true) (x.code-is ∙ x.row_code-code.ensures)
+      | else-at_row+then-at_desk x ↦ of-desk (row ∙ x.if-at_row.false) (sym x.at_desk.ensures ∙ x.if-at_desk.true) (x.code-is ∙ x.desk_code.ensures)
+      | else-at_row+else-at_desk x ↦ of-board (row ∙ x.if-at_row.false) (sym x.at_desk.ensures ∙ x.if-at_desk.false) (x.code-is ∙ x.board_code.ensures)
+    ]
 
-is_row : (g : Then-at_row) → at_row (ask-of g.before.before) ≡ true
+is_row : (g : Then-at_row) → at_row (ask-of g.loop-i.table g.read_record-event.result) ≡ true
 is_row g = sym g.at_row.ensures ∙ g.if-at_row.true
 
-row-again : (g : Then-at_row-2) → at_row (ask-of g.before.before.before.before.before) ≡ true
+row-again : (g : Then-at_row-2) → at_row (ask-of g.loop-i.table g.read_record-event.result) ≡ true
 row-again g = sym g.at_row-in-loop-i.ensures ∙ g.if-at_row-2.true
 
-no_row : (g : Else-at_row-2) → at_row (ask-of g.before.before.before.before.before) ≡ false
+no_row : (g : Else-at_row-2) → at_row (ask-of g.loop-i.table g.read_record-event.result) ≡ false
 no_row g = sym g.at_row-in-loop-i.ensures ∙ g.if-at_row-2.false
 
-desk-again : (g : Then-at_desk-2) → at_desk (ask-of g.before.before.before.before.before.before.before) ≡ true
+desk-again : (g : Then-at_desk-2) → at_desk (ask-of g.loop-i.table g.read_record-event.result) ≡ true
 desk-again g = sym g.at_desk-in-loop-i.ensures ∙ g.if-at_desk-2.true
 
-no-desk : (g : Else-at_desk-2) → at_desk (ask-of g.before.before.before.before.before.before.before) ≡ false
+no-desk : (g : Else-at_desk-2) → at_desk (ask-of g.loop-i.table g.read_record-event.result) ≡ false
 no-desk g = sym g.at_desk-in-loop-i.ensures ∙ g.if-at_desk-2.false
-
--- its node
-node-first : (g : Then-at_row) → At (body_in (table_of g.before.before)) (event-of g.before.before).node
-node-first g = at-row (turn g.before.before) (is_row g)
-
-node-again : (g : Then-at_row-2) → At (body_in (table_of g.before.before.before.before.before)) (event-of g.before.before.before.before.before).node
-node-again g = at-row (turn g.before.before.before.before.before) (row-again g)
 
 pub loop-i-init : goal.loop-i-init
 loop-i-init c =
@@ -131,32 +123,32 @@ loop-i-preserved-then-reached-table c =
 
 pub overflow_sub-at : goal.overflow_sub-at
 overflow_sub-at c =
-    let a = node-first (goal.at.overflow_sub-at c).Then-at_row in
+    let a = at-row (turn (goal.at.overflow_sub-at c).After-read_record-event) (is_row (goal.at.overflow_sub-at c).Then-at_row) in
     omega arith
 
 pub overflow_cast-at-then-at_row : goal.overflow_cast-at-then-at_row
 overflow_cast-at-then-at_row c =
-    let a = node-first (goal.at.overflow_cast-at-then-at_row c).Then-at_row in
+    let a = at-row (turn (goal.at.overflow_cast-at-then-at_row c).After-read_record-event) (is_row (goal.at.overflow_cast-at-then-at_row c).Then-at_row) in
     omega arith
 
 pub offset_bounds-table-at-then-at_row : goal.offset_bounds-table-at-then-at_row
 offset_bounds-table-at-then-at_row c =
-    let a = node-first (goal.at.offset_bounds-table-at-then-at_row c).Then-at_row in
+    let a = at-row (turn (goal.at.offset_bounds-table-at-then-at_row c).After-read_record-event) (is_row (goal.at.offset_bounds-table-at-then-at_row c).Then-at_row) in
     omega arith
 
 pub bounds-table-at-then-at_row : goal.bounds-table-at-then-at_row
 bounds-table-at-then-at_row c =
-    let a = node-first (goal.at.bounds-table-at-then-at_row c).Then-at_row in
+    let a = at-row (turn (goal.at.bounds-table-at-then-at_row c).After-read_record-event) (is_row (goal.at.bounds-table-at-then-at_row c).Then-at_row) in
     omega arith
 
 pub offset_bounds-table-at-then-at_row-2 : goal.offset_bounds-table-at-then-at_row-2
 offset_bounds-table-at-then-at_row-2 c =
-    let a = node-first (goal.at.offset_bounds-table-at-then-at_row-2 c).Then-at_row in
+    let a = at-row (turn (goal.at.offset_bounds-table-at-then-at_row-2 c).After-read_record-event) (is_row (goal.at.offset_bounds-table-at-then-at_row-2 c).Then-at_row) in
     omega arith
 
 pub bounds-table-at-then-at_row-2 : goal.bounds-table-at-then-at_row-2
 bounds-table-at-then-at_row-2 c =
-    let a = node-first (goal.at.bounds-table-at-then-at_row-2 c).Then-at_row in
+    let a = at-row (turn (goal.at.bounds-table-at-then-at_row-2 c).After-read_record-event) (is_row (goal.at.bounds-table-at-then-at_row-2 c).Then-at_row) in
     omega arith
 
 pub row_code-code-requires : goal.row_code-code-requires
@@ -186,35 +178,35 @@ loop-i-preserved-then-code-ne-DONE c =
 
 pub overflow_sub-at-then-at_row-2 : goal.overflow_sub-at-then-at_row-2
 overflow_sub-at-then-at_row-2 c =
-    let a = node-again (goal.at.overflow_sub-at-then-at_row-2 c).Then-at_row-2 in
+    let a = at-row (turn (goal.at.overflow_sub-at-then-at_row-2 c).After-read_record-event) (row-again (goal.at.overflow_sub-at-then-at_row-2 c).Then-at_row-2) in
     omega arith
 
 pub overflow_cast-at-then-at_row-2 : goal.overflow_cast-at-then-at_row-2
 overflow_cast-at-then-at_row-2 c =
-    let a = node-again (goal.at.overflow_cast-at-then-at_row-2 c).Then-at_row-2 in
+    let a = at-row (turn (goal.at.overflow_cast-at-then-at_row-2 c).After-read_record-event) (row-again (goal.at.overflow_cast-at-then-at_row-2 c).Then-at_row-2) in
     omega arith
 
 pub offset_bounds-table-at-then-at_row-2-2 : goal.offset_bounds-table-at-then-at_row-2-2
 offset_bounds-table-at-then-at_row-2-2 c =
-    let a = node-again (goal.at.offset_bounds-table-at-then-at_row-2-2 c).Then-at_row-2 in
+    let a = at-row (turn (goal.at.offset_bounds-table-at-then-at_row-2-2 c).After-read_record-event) (row-again (goal.at.offset_bounds-table-at-then-at_row-2-2 c).Then-at_row-2) in
     omega arith
 
 pub bounds-table-at-then-at_row-2-2 : goal.bounds-table-at-then-at_row-2-2
 bounds-table-at-then-at_row-2-2 c =
-    let a = node-again (goal.at.bounds-table-at-then-at_row-2-2 c).Then-at_row-2 in
+    let a = at-row (turn (goal.at.bounds-table-at-then-at_row-2-2 c).After-read_record-event) (row-again (goal.at.bounds-table-at-then-at_row-2-2 c).Then-at_row-2) in
     omega arith
 
 pub learn-requires : goal.learn-requires
-learn-requires c = controller-ordered _ _ (node-again (goal.at.learn-requires c).Then-at_row-2)
+learn-requires c = controller-ordered _ _ (at-row (turn (goal.at.learn-requires c).After-read_record-event) (row-again (goal.at.learn-requires c).Then-at_row-2))
 
 pub offset_bounds-table-at-then-ask-eq-LEARN : goal.offset_bounds-table-at-then-ask-eq-LEARN
 offset_bounds-table-at-then-ask-eq-LEARN c =
-    let a = node-again (goal.at.offset_bounds-table-at-then-ask-eq-LEARN c).Then-at_row-2 in
+    let a = at-row (turn (goal.at.offset_bounds-table-at-then-ask-eq-LEARN c).After-read_record-event) (row-again (goal.at.offset_bounds-table-at-then-ask-eq-LEARN c).Then-at_row-2) in
     omega arith
 
 pub bounds-table-at-then-ask-eq-LEARN : goal.bounds-table-at-then-ask-eq-LEARN
 bounds-table-at-then-ask-eq-LEARN c =
-    let a = node-again (goal.at.bounds-table-at-then-ask-eq-LEARN c).Then-at_row-2 in
+    let a = at-row (turn (goal.at.bounds-table-at-then-ask-eq-LEARN c).After-read_record-event) (row-again (goal.at.bounds-table-at-then-ask-eq-LEARN c).Then-at_row-2) in
     omega arith
 
 pub loop-i-smaller-then-ask-eq-LEARN : goal.loop-i-smaller-then-ask-eq-LEARN
@@ -225,67 +217,67 @@ loop-i-smaller-then-ask-eq-LEARN c =
 pub loop-i-preserved-then-ask-eq-LEARN : goal.loop-i-preserved-then-ask-eq-LEARN
 loop-i-preserved-then-ask-eq-LEARN c =
     let h = turn (goal.at.loop-i-preserved-then-ask-eq-LEARN c).After-read_record-event in
-    let done = c.if-code-ne-DONE.left in
+    let done = c.if-code-ne-DONE.false in
     (omega arith, omega arith, unposted _ _ h.all (learn-way h (row-again (goal.at.loop-i-preserved-then-ask-eq-LEARN c).Then-at_row-2) c.if-at_row.code (coded (goal.at.loop-i-preserved-then-ask-eq-LEARN c).Joined-at_row) done c.if-ask-eq-LEARN.true c.learn.result c.learn.ensures))
 
 pub offset_bounds-table-at-then-at_row-2-3 : goal.offset_bounds-table-at-then-at_row-2-3
 offset_bounds-table-at-then-at_row-2-3 c =
-    let a = node-again (goal.at.offset_bounds-table-at-then-at_row-2-3 c).Then-at_row-2 in
+    let a = at-row (turn (goal.at.offset_bounds-table-at-then-at_row-2-3 c).After-read_record-event) (row-again (goal.at.offset_bounds-table-at-then-at_row-2-3 c).Then-at_row-2) in
     omega arith
 
 pub bounds-table-at-then-at_row-2-3 : goal.bounds-table-at-then-at_row-2-3
 bounds-table-at-then-at_row-2-3 c =
-    let a = node-again (goal.at.bounds-table-at-then-at_row-2-3 c).Then-at_row-2 in
+    let a = at-row (turn (goal.at.bounds-table-at-then-at_row-2-3 c).After-read_record-event) (row-again (goal.at.bounds-table-at-then-at_row-2-3 c).Then-at_row-2) in
     omega arith
 
 pub row_after-row-requires : goal.row_after-row-requires
 row_after-row-requires c =
     let h = turn (goal.at.row_after-row-requires c).After-read_record-event in
-    let done = c.if-code-ne-DONE.left in
+    let done = c.if-code-ne-DONE.false in
     (goes-row h (row-again (goal.at.row_after-row-requires c).Then-at_row-2) c.if-at_row.code (coded (goal.at.row_after-row-requires c).Joined-at_row) done, c.if-ask-eq-LEARN.false)
 
 pub offset_bounds-table-at-then-at_row-2-4 : goal.offset_bounds-table-at-then-at_row-2-4
 offset_bounds-table-at-then-at_row-2-4 c =
-    let a = node-again (goal.at.offset_bounds-table-at-then-at_row-2-4 c).Then-at_row-2 in
+    let a = at-row (turn (goal.at.offset_bounds-table-at-then-at_row-2-4 c).After-read_record-event) (row-again (goal.at.offset_bounds-table-at-then-at_row-2-4 c).Then-at_row-2) in
     omega arith
 
 pub bounds-table-at-then-at_row-2-4 : goal.bounds-table-at-then-at_row-2-4
 bounds-table-at-then-at_row-2-4 c =
-    let a = node-again (goal.at.bounds-table-at-then-at_row-2-4 c).Then-at_row-2 in
+    let a = at-row (turn (goal.at.bounds-table-at-then-at_row-2-4 c).After-read_record-event) (row-again (goal.at.bounds-table-at-then-at_row-2-4 c).Then-at_row-2) in
     omega arith
 
 pub offset_bounds-table-at-then-at_row-2-5 : goal.offset_bounds-table-at-then-at_row-2-5
 offset_bounds-table-at-then-at_row-2-5 c =
-    let a = node-again (goal.at.offset_bounds-table-at-then-at_row-2-5 c).Then-at_row-2 in
+    let a = at-row (turn (goal.at.offset_bounds-table-at-then-at_row-2-5 c).After-read_record-event) (row-again (goal.at.offset_bounds-table-at-then-at_row-2-5 c).Then-at_row-2) in
     omega arith
 
 pub bounds-table-at-then-at_row-2-5 : goal.bounds-table-at-then-at_row-2-5
 bounds-table-at-then-at_row-2-5 c =
-    let a = node-again (goal.at.bounds-table-at-then-at_row-2-5 c).Then-at_row-2 in
+    let a = at-row (turn (goal.at.bounds-table-at-then-at_row-2-5 c).After-read_record-event) (row-again (goal.at.bounds-table-at-then-at_row-2-5 c).Then-at_row-2) in
     omega arith
 
 pub keep-writes-requires : goal.keep-writes-requires
 keep-writes-requires c =
     let h = turn (goal.at.keep-writes-requires c).After-read_record-event in
-    let done = c.if-code-ne-DONE.left in
+    let done = c.if-code-ne-DONE.false in
     let long = long-as-lent (goal.at.keep-writes-requires c).At-loop-i in
-    (simp length-set (omega arith), row_room h (row-again (goal.at.keep-writes-requires c).Then-at_row-2) c.if-at_row.code (coded (goal.at.keep-writes-requires c).Joined-at_row) done c.if-ask-eq-LEARN.left c.row_after-row.result c.row_after-row.ensures)
+    (simp length-set (omega arith), row_room h (row-again (goal.at.keep-writes-requires c).Then-at_row-2) c.if-at_row.code (coded (goal.at.keep-writes-requires c).Joined-at_row) done c.if-ask-eq-LEARN.false c.row_after-row.result c.row_after-row.ensures)
 
 pub loop-i-smaller-then-at_row-2 : goal.loop-i-smaller-then-at_row-2
 loop-i-smaller-then-at_row-2 c =
-    fewer c.args.trailer.records c.loop-i.i c.loop-i.table.count c.loop-i.reached c.loop-i-test.taken
+    fewer c.args.trailer.records c.loop-i.i c.loop-i.table.count c.loop-i.reached c.loop-i-test.true
 
 pub loop-i-preserved-then-at_row-2 : goal.loop-i-preserved-then-at_row-2
 loop-i-preserved-then-at_row-2 c =
     let h = turn (goal.at.loop-i-preserved-then-at_row-2 c).After-read_record-event in
-    let done = c.if-code-ne-DONE.left in
+    let done = c.if-code-ne-DONE.false in
     let kept = c.keep-writes.ensures in
-    (omega arith, omega arith, unposted _ _ h.all (row-way h (row-again (goal.at.loop-i-preserved-then-at_row-2 c).Then-at_row-2) c.if-at_row.code (coded (goal.at.loop-i-preserved-then-at_row-2 c).Joined-at_row) done c.if-ask-eq-LEARN.left c.row_after-row.result c.row_after-row.ensures kept.1 kept.0))
+    (omega arith, omega arith, unposted _ _ h.all (row-way h (row-again (goal.at.loop-i-preserved-then-at_row-2 c).Then-at_row-2) c.if-at_row.code (coded (goal.at.loop-i-preserved-then-at_row-2 c).Joined-at_row) done c.if-ask-eq-LEARN.false c.row_after-row.result c.row_after-row.ensures kept.1 kept.0))
 
 pub service_after-next-requires : goal.service_after-next-requires
 service_after-next-requires c =
     let h = turn (goal.at.service_after-next-requires c).After-read_record-event in
-    let done = c.if-code-ne-DONE.left in
+    let done = c.if-code-ne-DONE.false in
     goes-desk h (no_row (goal.at.service_after-next-requires c).Else-at_row-2) (desk-again (goal.at.service_after-next-requires c).Then-at_desk-2) c.if-at_row.code (coded (goal.at.service_after-next-requires c).Joined-at_row) done
 
 pub loop-i-smaller-then-posts : goal.loop-i-smaller-then-posts
@@ -296,7 +288,7 @@ loop-i-smaller-then-posts c =
 pub loop-i-preserved-then-posts : goal.loop-i-preserved-then-posts
 loop-i-preserved-then-posts c =
     let h = turn (goal.at.loop-i-preserved-then-posts c).After-read_record-event in
-    let done = c.if-code-ne-DONE.left in
+    let done = c.if-code-ne-DONE.false in
     let x = c.service_after-next in
     (omega arith, omega arith, post-way h (no_row (goal.at.loop-i-preserved-then-posts c).Else-at_row-2) (desk-again (goal.at.loop-i-preserved-then-posts c).Then-at_desk-2) c.if-at_row.code (coded (goal.at.loop-i-preserved-then-posts c).Joined-at_row) done x.result x.ensures (sym c.posts.ensures ∙ c.if-posts.true))
 
@@ -308,14 +300,14 @@ loop-i-smaller-else-posts c =
 pub loop-i-preserved-else-posts : goal.loop-i-preserved-else-posts
 loop-i-preserved-else-posts c =
     let h = turn (goal.at.loop-i-preserved-else-posts c).After-read_record-event in
-    let done = c.if-code-ne-DONE.left in
+    let done = c.if-code-ne-DONE.false in
     let x = c.service_after-next in
     (omega arith, omega arith, unposted _ _ h.all (quiet-way h (no_row (goal.at.loop-i-preserved-else-posts c).Else-at_row-2) (desk-again (goal.at.loop-i-preserved-else-posts c).Then-at_desk-2) c.if-at_row.code (coded (goal.at.loop-i-preserved-else-posts c).Joined-at_row) done x.result x.ensures (sym c.posts.ensures ∙ c.if-posts.false)))
 
 pub board_after-board-requires : goal.board_after-board-requires
 board_after-board-requires c =
     let h = turn (goal.at.board_after-board-requires c).After-read_record-event in
-    let done = c.if-code-ne-DONE.left in
+    let done = c.if-code-ne-DONE.false in
     goes-board h (no_row (goal.at.board_after-board-requires c).Else-at_row-2) (no-desk (goal.at.board_after-board-requires c).Else-at_desk-2) c.if-at_row.code (coded (goal.at.board_after-board-requires c).Joined-at_row) done
 
 pub loop-i-smaller : goal.loop-i-smaller
@@ -326,12 +318,12 @@ loop-i-smaller c =
 pub loop-i-preserved : goal.loop-i-preserved
 loop-i-preserved c =
     let h = turn (goal.at.loop-i-preserved c).After-read_record-event in
-    let done = c.if-code-ne-DONE.left in
+    let done = c.if-code-ne-DONE.false in
     let x = c.board_after-board in (
       omega arith,
       omega arith,
       unposted _ _ h.all
-          (same_body (ap (λ (y : Bool). with_board y x.result.streams x.result.claims (body_in (table_of (goal.at.loop-i-preserved c).After-read_record-event))) c.UNKNOWN-Runs-after.ensures) (board-way h (no_row (goal.at.loop-i-preserved c).Else-at_row-2) (no-desk (goal.at.loop-i-preserved c).Else-at_desk-2) c.if-at_row.code (coded (goal.at.loop-i-preserved c).Joined-at_row) done x.result x.ensures)),
+          (same_body (ap (λ (y : Bool). with_board y x.result.streams x.result.claims (body_in c.loop-i.table)) c.runs_after.ensures) (board-way h (no_row (goal.at.loop-i-preserved c).Else-at_row-2) (no-desk (goal.at.loop-i-preserved c).Else-at_desk-2) c.if-at_row.code (coded (goal.at.loop-i-preserved c).Joined-at_row) done x.result x.ensures)),
     )
 
 pub returns : goal.returns

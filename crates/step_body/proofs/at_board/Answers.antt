@@ -30,7 +30,7 @@ returns-then-code-eq-DONE c = λ history.
     let k = c.args.kind in
     let x = c.board_after-board in
     leaves-as n history _ _ c.plain.result
-    (c.plain.ensures ∙ ap (plain step_done) (c.with_board.ensures ∙ ap (λ (r : Bool). with_board r x.result.streams x.result.claims b) c.UNKNOWN-Runs-after.ensures))
+    (c.plain.ensures ∙ ap (plain step_done) (c.with_board.ensures ∙ ap (λ (r : Bool). with_board r x.result.streams x.result.claims b) c.runs_after.ensures))
     (board-leaves b c.requires.0 n k c.requires.1 c.requires.2 (sym c.board_code-code.ensures ∙ c.if-code-eq-DONE.true) history x.result x.ensures)
 
 pub returns : goal.returns
