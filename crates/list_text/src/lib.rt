@@ -1,5 +1,6 @@
 // From an event list to its text: what the program `read_list` prints.
 #![tactic(auto)]
+
 ghost use Rattle.std.specs.Prelude.{◌+◌, ◌*◌, ◌≤◌, length};
 ghost use Rattle.any_text.specs.Put.{Put};
 ghost use Rattle.any_text.specs.Lined.{Lined};

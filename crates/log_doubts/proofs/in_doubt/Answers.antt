@@ -2,14 +2,8 @@ use native.Mathlib.Omega.{arith}
 use Rattle.log_doubts.specs.Index.{letter-low, not-dependent, of-one-log, by-clocks}
 use Rattle.log_doubts.proofs.in_doubt.Goals as goal
 
--- UNMATCHED overflow-cast-if1
--- cast-if1 c = let h = letter-low c.before.before.before.before.before.requires.0 c.before.before.before.before.before.args.x c.before.before.before.before.before.requires.1 in omega arith
-
 pub overflow_mul-letters : goal.overflow_mul-letters
 overflow_mul-letters c = let h = letter-low c.requires.0 c.args.x c.requires.1 in omega arith
-
--- UNMATCHED overflow-cast-if1-2
--- cast-if1-2 c = let h = letter-low c.before.before.before.before.before.before.requires.0 c.before.before.before.before.before.before.args.y c.before.before.before.before.before.before.requires.2 in omega arith
 
 pub overflow_add-letters : goal.overflow_add-letters
 overflow_add-letters c = let h = letter-low c.requires.0 c.args.x c.requires.1 in let k = letter-low c.requires.0 c.args.y c.requires.2 in omega arith

@@ -23,7 +23,13 @@ left : (c : After-find_left-found) → c.find_left-found.result ≢ c.args.other
 left c d = let h = c.find_left-found.ensures.high in let z = c.requires.2.size in omega arith
 
 found-small : (c : After-find_left-found) → c.find_left-found.result ≢ c.args.other.records → get_or c.args.places.now c.find_left-found.result 0 < 32768
-found-small c d = small c.before.before.before.before.before _ (let h = left c d in let z = c.requires.2.size in omega arith)
+found-small c d =
+    let h = left c d in
+    let z = c.requires.2.size in
+    let k = c.requires.2.inside c.find_left-found.result (omega arith) in
+    let t = c.requires.1 in
+    let u = t.good in
+    omega arith
 
 pub returns-then-found-other : goal.returns-then-found-other
 returns-then-found-other c =
@@ -43,9 +49,6 @@ returns-then-behind-one c =
     c.only_second.ensures
     ∙ no-first x.one.nodes (record_at x.first.now) (record_at x.second.now) x.one.records x.places.now x.a (get_or x.places.now x.b 0) c.requires.3 (row (goal.at.returns-then-behind-one c).Start) c.read_record.ensures c.find_left-found.ensures (left (goal.at.returns-then-behind-one c).After-find_left-found c.if-found-other.false)
     c.read_record-blocking.ensures c.find_record-behind.ensures (omega arith)
-
--- UNMATCHED overflow-cast-t22
--- cast-t22 c = let h = found-small (found_of (met_of (behind-of c))) (met_of (behind-of c)).before.if1.false in omega arith
 
 pub overflow_add-result-3 : goal.overflow_add-result-3
 overflow_add-result-3 c = let h = found-small (goal.at.overflow_add-result-3 c).After-find_left-found c.if-found-other.false in omega arith

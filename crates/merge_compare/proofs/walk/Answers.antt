@@ -36,7 +36,7 @@ inside : (c : After-next_stop-at) → let x = c.args in c.next_stop-at.result �
 inside c d = let h = c.next_stop-at.ensures.high in let z = c.loop-j.invariant.placed.size in omega arith
 
 met-inside : (c : After-alike) → c.next_stop-at.result < c.args.other.records
-met-inside c = inside c.before.before.before.before.before c.if-at-other.false
+met-inside c = let h = c.next_stop-at.ensures.high in let z = c.loop-j.invariant.placed.size in omega (arith, c.if-at-other.false)
 
 -- whether the record that is met is the one that is looked for
 same : (c : After-alike) → let x = c.args in let l = c.loop-j in
@@ -90,9 +90,6 @@ loop-j-preserved c =
 
 pub bounds-places-j : goal.bounds-places-j
 bounds-places-j c = let z = c.loop-j.invariant.placed.size in omega arith
-
--- UNMATCHED overflow-cast-only-second
--- cast-only-second c = let h = place-small (last_turn c.before.before.before) _ c.before.if4.true in omega arith
 
 pub only_second-requires : goal.only_second-requires
 only_second-requires c = place-small (goal.at.only_second-requires c).At-loop-j _ c.if-j-other.true

@@ -17,9 +17,6 @@ loop-i-init c = seek-starts (omega arith)
 pub bounds-letters-place : goal.bounds-letters-place
 bounds-letters-place c = let p = c.requires.2 in p.inside c.loop-i.i (let z = p.size in omega arith)
 
--- UNMATCHED overflow-cast-if1
--- cast-if1 c = omega (arith, letter-fits c)
-
 pub overflow_add-row : goal.overflow_add-row
 overflow_add-row c = omega (arith, letter-fits (goal.at.overflow_add-row c).After-shared_slice_known-in-loop-i-1)
 
