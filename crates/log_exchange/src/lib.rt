@@ -1,5 +1,6 @@
 // One exchange of two records that are in doubt, where the clocks allow it, and what it does to the history.
 #![tactic(auto)]
+
 ghost use Rattle.std.specs.Prelude.{◌≡◌, true, ℕ, ◌+◌, ◌*◌, ◌-◌, ◌≤◌, ◌<◌, length, get_or};
 ghost use Rattle.rules.specs.Range.{all};
 ghost use Rattle.any_search.specs.Places.{from};

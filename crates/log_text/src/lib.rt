@@ -1,5 +1,6 @@
 // What the program `merges` prints for a merged log, as one text in a lent buffer.
 #![tactic(auto)]
+
 ghost use Rattle.std.specs.Prelude.{◌+◌, ◌*◌, ◌≤◌, ◌<◌, length, take};
 ghost use Rattle.any_text.specs.Put.{Put};
 ghost use Rattle.log_records.specs.Rows.{rows_in};

@@ -1,5 +1,6 @@
 // The verdict on two merges for a host: a number, and the places as bytes.
 #![tactic(auto)]
+
 ghost use Rattle.std.specs.Prelude.{◌≡◌, ◌+◌, ◌≤◌, length};
 ghost use Rattle.std.proofs.lemmas.List.Edits.{sets};
 ghost use Rattle.run_lists.specs.EventList.{over};

@@ -1,5 +1,6 @@
 // What the program `compare` prints for two event lists, as one text in a lent buffer.
 #![tactic(auto)]
+
 ghost use Rattle.std.specs.Prelude.{◌≡◌, ◌++◌, ◌+◌, ◌≤◌, length};
 ghost use Rattle.run_lists.specs.EventList.{node_count};
 ghost use Rattle.run.specs.Ran.{history_room};

@@ -1,5 +1,6 @@
 // Where two histories first differ, read from the buffers that two runs have filled.
 #![tactic(auto)]
+
 ghost use Rattle.std.specs.Prelude.{◌≡◌, ◌*◌, ◌≤◌, length, get_or};
 ghost use Rattle.rules.specs.Limits.{history_length};
 ghost use Rattle.run_lists.specs.Entries.{no_write};

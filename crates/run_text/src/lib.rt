@@ -1,6 +1,7 @@
 // What running a list prints, as one text. The text is made whole in one buffer, so that a contract states every byte of it: of bytes that are written
 // to a file part by part no contract can speak.
 #![tactic(auto)]
+
 ghost use Rattle.std.specs.Prelude.{◌≤◌, length};
 ghost use Rattle.any_text.specs.Put.{Put};
 ghost use Rattle.run_text.specs.Transcript.{transcript};
