@@ -2,20 +2,22 @@
 #![tactic(auto)]
 
 use files::Input;
+use std::process::ExitCode;
 
-fn main(rt: HostRuntime) {
+fn main(rt: HostRuntime) -> ExitCode {
     // One byte more than the longest message, so that a longer one is seen.
     let mut message = [0u8; wire_text::LONGEST + 1];
     let Input::Whole(n) = files::read_input(&rt, &mut message) else {
-        return;
+        return ExitCode::SUCCESS;
     };
     let mut text = [0u8; wire_text::LONGEST_TEXT];
     let length = wire_text::printout(&message[..n], &mut text);
-    files::print(&rt, &text[..length]);
+    let output = files::print(&rt, &text[..length]);
     if wire_frames::looks_streamed(&message[..n]) {
         files::warn(
             &rt,
             b"arbitration: this looks like a stream message; captured reads those\n",
         );
     }
+    output.status()
 }

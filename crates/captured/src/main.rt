@@ -3,7 +3,8 @@
 
 ghost use Rattle.std.specs.Prelude.{◌≤◌, length};
 
-use files::Input;
+use files::{Input, Output};
+use std::process::ExitCode;
 use wire_frames::Frame;
 
 // A head, and the longest message that a frame may hold.
@@ -43,23 +44,20 @@ fn read_next(rt: &HostRuntime, space: &mut [u8]) -> Next
     Next::Read(wire_frames::read_frame(&space[..all]))
 }
 
-// Prints the text of a frame, and answers whether to go on: not after a refusal, and not where the text could not be written.
-fn printed(rt: &HostRuntime, number: u64, offset: u64, frame: Frame) -> bool {
+// Prints the text of a frame.
+fn print_frame(rt: &HostRuntime, number: u64, offset: u64, frame: Frame) -> Output {
     let mut text = [0u8; wire_frames_text::LONGEST_TEXT];
     let length = wire_frames_text::shown(number, offset, frame, &mut text);
-    if files::print(rt, &text[..length]) {
-        return frame.code == wire_fields::READ;
-    }
-    false
+    files::print(rt, &text[..length])
 }
 
-fn print_end(rt: &HostRuntime, number: u64) {
+fn print_end(rt: &HostRuntime, number: u64) -> Output {
     let mut text = [0u8; wire_frames_text::LONGEST_TEXT];
     let length = wire_frames_text::ended(number, &mut text);
-    files::print(rt, &text[..length]);
+    files::print(rt, &text[..length])
 }
 
-fn main(rt: HostRuntime) {
+fn main(rt: HostRuntime) -> ExitCode {
     let mut room = [0u8; ROOM];
     let space: &mut [u8] = &mut room;
     let mut number: u64 = 0;
@@ -68,19 +66,23 @@ fn main(rt: HostRuntime) {
         let next = read_next(&rt, space);
         match next {
             Next::Failed => {
-                return;
+                return ExitCode::SUCCESS;
             }
             Next::End => {
-                print_end(&rt, number);
-                return;
+                return print_end(&rt, number).status();
             }
             Next::Read(frame) => {
                 number += 1;
-                if !printed(&rt, number, offset, frame) {
-                    return;
+                let output = print_frame(&rt, number, offset, frame);
+                if !output.is_whole() {
+                    return output.status();
+                }
+                if frame.code != wire_fields::READ {
+                    return ExitCode::SUCCESS;
                 }
                 offset = offset.wrapping_add(frame.size as u64);
             }
         }
     }
+    ExitCode::SUCCESS
 }

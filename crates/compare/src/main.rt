@@ -2,22 +2,22 @@
 #![tactic(auto)]
 
 use files::Input;
+use std::process::ExitCode;
 
-fn main(rt: HostRuntime) {
+fn main(rt: HostRuntime) -> ExitCode {
     if !files::argument_count_is(&rt, 3) {
-        files::print(&rt, b"usage: compare FIRST SECOND\n");
-        return;
+        return files::print(&rt, b"usage: compare FIRST SECOND\n").status();
     }
     // One byte more than the longest list, so that a longer one is seen.
     let mut first = [0u8; run_lists::LONGEST + 1];
     let Input::Whole(n) = files::read_argument(&rt, 1, b"refused first file\n", &mut first) else {
-        return;
+        return ExitCode::SUCCESS;
     };
     let mut second = [0u8; run_lists::LONGEST + 1];
     let Input::Whole(m) = files::read_argument(&rt, 2, b"refused second file\n", &mut second) else {
-        return;
+        return ExitCode::SUCCESS;
     };
     let mut text = [0u8; merge_text::LONGEST_REPORT];
     let length = merge_text::report(&first[..n], &second[..m], &mut text);
-    files::print(&rt, &text[..length]);
+    files::print(&rt, &text[..length]).status()
 }

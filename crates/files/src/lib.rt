@@ -3,7 +3,8 @@
 // No contract can speak of bytes that come from outside or go there. Those here say that what was read lies within the buffer that was lent.
 #![tactic(auto)]
 
-ghost use Rattle.std.specs.Prelude.{◌<◌, length, take, IfOk, OnOk};
+ghost use Rattle.std.specs.Prelude.{◌≡◌, ◌↔◌, ◌<◌, length, take, IfOk, OnOk, IsTrue};
+ghost use Rattle.files.specs.declared.Output.TheVariants.{Whole};
 ghost use Rattle.std.specs.Io.KnownBytes.{Appends, Consumes, IsAtEnd};
 ghost use Rattle.files.specs.Within.{IsPrefixLen, Within};
 
@@ -11,6 +12,7 @@ use std::env::{Env, FillError};
 use std::fmt::InlineText;
 use std::fs::File;
 use std::io::{Error, ErrorKind, Read, Write};
+use std::process::ExitCode;
 use std::str::from_utf8;
 use std::{fs, io};
 
@@ -22,6 +24,36 @@ const MOST_INTERRUPTIONS: usize = 1000;
 pub enum Input {
     Whole(usize),
     Refused,
+}
+
+// What printing came to: all was taken; or not all, which has been said on standard error; or it went where nobody reads any more, which has been said too.
+#[derive(Clone, Copy)]
+pub enum Output {
+    Whole,
+    Lost,
+    Unread,
+}
+
+// The status that a shell gives of a program which was ended by the signal for output that nobody reads.
+const UNREAD: u8 = 141;
+
+impl Output {
+    pub fn is_whole(self) -> bool
+        ensures { IsTrue result ↔ (self ≡ Whole) }
+    {
+        match self {
+            Output::Whole => true,
+            _ => false,
+        }
+    }
+
+    // The status that a program ends with.
+    pub fn status(self) -> ExitCode {
+        match self {
+            Output::Unread => ExitCode::from(UNREAD),
+            _ => ExitCode::SUCCESS,
+        }
+    }
 }
 
 // Writes all of a text, unless a write fails.
@@ -39,13 +71,16 @@ fn write_whole<W: Write>(writer: &mut W, text: &[u8]) -> io::Result<()>
     Ok(())
 }
 
-// Writes a text to standard output, and answers whether all of it was taken. Where it was not, the reason is written to standard error.
-pub fn print(rt: &HostRuntime, text: &[u8]) -> bool {
+// Writes a text to standard output. Where not all of it was taken, the reason is written to standard error.
+pub fn print(rt: &HostRuntime, text: &[u8]) -> Output {
     match write_whole(&mut rt.stdout(), text) {
-        Ok(()) => true,
+        Ok(()) => Output::Whole,
         Err(error) => {
             say(rt, b"standard output", error);
-            false
+            if error.kind() == ErrorKind::BrokenPipe {
+                return Output::Unread;
+            }
+            Output::Lost
         }
     }
 }

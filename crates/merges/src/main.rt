@@ -2,6 +2,7 @@
 #![tactic(auto)]
 
 use files::Input;
+use std::process::ExitCode;
 
 // A log of more bytes than this may take a while.
 const LONG: usize = 65536;
@@ -11,19 +12,18 @@ fn room() -> [u8; log_read::LONGEST + 1] {
     [0u8; log_read::LONGEST + 1]
 }
 
-fn main(rt: HostRuntime) {
+fn main(rt: HostRuntime) -> ExitCode {
     if !files::argument_count_is(&rt, 2) {
-        files::print(&rt, b"usage: merges FILE\n");
-        return;
+        return files::print(&rt, b"usage: merges FILE\n").status();
     }
     let mut log = room();
     let Input::Whole(n) = files::read_argument(&rt, 1, b"refused file\n", &mut log) else {
-        return;
+        return ExitCode::SUCCESS;
     };
     if LONG < n {
         files::warn(&rt, b"merges: comparing the records\n");
     }
     let mut text = [0u8; log_text::LONGEST_ANSWER];
     let length = log_text::answer(&log[..n], &mut text);
-    files::print(&rt, &text[..length]);
+    files::print(&rt, &text[..length]).status()
 }
