@@ -11,45 +11,44 @@ LIST ?= examples/sample.hex
 PREFIX ?= /usr/local
 DESTDIR ?=
 PROGRAMS = replay compare merges arbitration captured write_list read_list
+BUILT = $(PROGRAMS:%=target/bin/%)
 LIBRARY = target/staticlib/libhoefspanker.a
+SOURCES = crates.txt $(shell find crates -path '*/out' -prune -o \( -name '*.rt' -o -name '*.antt' \) -print)
 VERSION := $(shell sed -n 's/^.define HOEFSPANKER_VERSION "\(.*\)"$$/\1/p' include/hoefspanker.h)
 
 .PHONY: try run programs lib test bench install clean
-# Two rt at once would write the same files.
+# Two rt at once would wait for one another.
 .NOTPARALLEL:
 
 try:
 	@scripts/try
 
-run:
-	@scripts/prove replay
+run: target/bin/replay
 	@scripts/bytes "$(LIST)" | target/bin/replay
 
-programs:
-	@scripts/prove $(PROGRAMS)
+programs: $(BUILT)
 
 lib: $(LIBRARY)
 
-# Made again only if a crate has changed.
-$(LIBRARY): crates.txt $(shell find crates -name '*.rt' -o -name '*.antt')
-	@scripts/prove hoefspanker
-	rt staticlib hoefspanker
+# Programs and library are made again only if a crate has changed.
+$(BUILT) target/bin/tour: target/bin/%: $(SOURCES)
+	@scripts/prove $*
+
+$(LIBRARY): $(SOURCES)
+	@scripts/prove hoefspanker_c
 
 test:
 	@scripts/test
 
-bench: lib
-	@scripts/prove merges
+bench: $(LIBRARY) target/bin/merges
 	host/bench.sh
 
-install: programs $(LIBRARY)
+install: programs lib
 	install -d "$(DESTDIR)$(PREFIX)/bin" "$(DESTDIR)$(PREFIX)/include" "$(DESTDIR)$(PREFIX)/lib/pkgconfig"
-	install -m 755 target/bin/replay target/bin/compare target/bin/arbitration target/bin/captured "$(DESTDIR)$(PREFIX)/bin"
-	install -m 755 target/bin/merges "$(DESTDIR)$(PREFIX)/bin/merges"
-	install -m 755 target/bin/write_list target/bin/read_list "$(DESTDIR)$(PREFIX)/bin"
+	install -m 755 $(BUILT) "$(DESTDIR)$(PREFIX)/bin"
 	install -m 644 include/hoefspanker.h "$(DESTDIR)$(PREFIX)/include"
 	install -m 644 $(LIBRARY) "$(DESTDIR)$(PREFIX)/lib"
 	sed -e 's|@PREFIX@|$(PREFIX)|' -e 's|@VERSION@|$(VERSION)|' include/hoefspanker.pc.in >"$(DESTDIR)$(PREFIX)/lib/pkgconfig/hoefspanker.pc"
 
 clean:
-	rm -rf target build
+	rm -rf target build crates/*/out

@@ -1,6 +1,6 @@
 #!/bin/sh
 # Builds the measurement and runs it. Usage: host/bench.sh [ROUNDS]. Takes the
-# library and the program for merged logs from where `rt` writes them.
+# library and the program for merged logs from where `make` puts them.
 set -u
 cd "$(dirname "$0")/.." || exit 1
 . host/build.sh

@@ -2,10 +2,10 @@
 # Builds the host programs and runs all tests of the C calls and of the programs
 # that are fed by a test.
 # Usage: host/test.sh [LIBRARY], with the path of libhoefspanker.a, by default the
-# one that `rt staticlib hoefspanker` writes; or host/test.sh stand-in, which takes
+# one that `make lib` writes; or host/test.sh stand-in, which takes
 # the references in its place; or host/test.sh prepare, which only installs what is
 # missing and builds what needs no library, for a later host/test.sh to take. The
-# programs are taken from $PROGRAMS, by default where `rt check` writes them.
+# programs are taken from $PROGRAMS, by default where `make programs` puts them.
 set -u
 cd "$(dirname "$0")/.." || exit 1
 . host/build.sh

@@ -1,4 +1,5 @@
-"""Reads the specs of the crates, for the scripts beside it: what a file declares, and what its `use` lines bring."""
+"""Reads the files of specs and proofs of the crates, for the scripts beside it: what a file declares, and what its `use`
+lines bring."""
 import re
 import sys
 from pathlib import Path
@@ -17,16 +18,19 @@ def crate_of(path):
 
 
 def place(path):
-    """The file or struct that a module's path means, as crate/specs/File or crate::Struct; nothing for one of the kit's."""
-    found = re.fullmatch(r"Rattle·(\w+?)(?:·specs)?\.specs\.(declared\.)?(\w+)(?:\.the-variants)?", path)
-    if found and (CRATES / found[1]).is_dir():
-        return f"{found[1]}::{found[3]}" if found[2] else f"{found[1]}/specs/{found[3]}"
+    """The file or struct that a module's path means, as crate/specs/File, crate/proofs/File or crate::Struct; nothing for one
+    of the kit's."""
+    found = re.fullmatch(r"Rattle\.(\w+)\.(specs|proofs)\.(declared\.)?(\w+)(?:\.TheVariants)?", path)
+    if found and found[3] and (CRATES / found[1]).is_dir():
+        return f"{found[1]}::{found[4]}"
+    if found and (CRATES / found[1] / found[2] / f"{found[4]}.antt").is_file():
+        return f"{found[1]}/{found[2]}/{found[4]}"
     return None
 
 
 def spellings(name):
     """How a name is written: itself, and of an operator its parts, which stand between its arguments."""
-    return [name] + ([part for part in name.split("_") if part] if "_" in name else [])
+    return [name] + ([part for part in name.split("◌") if part] if "◌" in name else [])
 
 
 def scope(lines, opening):
@@ -68,7 +72,7 @@ class Item:
 
 
 class File:
-    """A file of specs: what its `use` lines bring, and its items; a constructor is an item too, that of its type."""
+    """A file of specs or lemmas: what its `use` lines bring, and its items; a constructor is an item too, that of its type."""
 
     def __init__(self, key):
         lines = [re.sub(r"(^|\s)--(\s.*)?$", "", line) for line in read(f"crates/{key}.antt").splitlines()]

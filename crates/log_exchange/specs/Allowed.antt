@@ -9,7 +9,7 @@ use Rattle.rules.specs.Range.{all}
 use Rattle.merge_verdict.specs.Verdict.{Exchanges}
 use Rattle.merge_verdict.specs.Clocks.{clocks, MayPass}
 use Rattle.merge_verdict.specs.Chains.{still, two, chain, under, exchanges-map}
-use Rattle.merge_verdict.specs.Passing.{still-allowed}
+use Rattle.merge_verdict.proofs.Passing.{still-allowed}
 use Rattle.any_search.specs.Places.{from}
 use Rattle.any_list.specs.Tables.{table_of, table-ext}
 use Rattle.log_read.specs.Log.{Row}

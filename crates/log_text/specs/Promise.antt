@@ -5,7 +5,7 @@ use Rattle.rules.specs.Step.{fresh}
 use Rattle.rules_laws.specs.Steps.{fresh-fits}
 use Rattle.merge_verdict.specs.Verdict.{Same}
 use Rattle.merge_verdict.specs.Clocks.{Logged, events, SameLogs, clocks, Timely}
-use Rattle.merge_verdict.specs.Merging.{clock-verdict}
+use Rattle.merge_verdict.proofs.Merging.{clock-verdict}
 use Rattle.any_text.specs.Line.{line}
 use Rattle.merge_text.specs.Words as R
 use Rattle.log_read.specs.Log.{longest_text, Row, read_text}

@@ -1,11 +1,8 @@
 -- Believed: Assured.
--- Laws: Times, Keeps, Meaning, Blocked, Sorts, Names, Uncrossed, Sample.
+-- Laws: Times, Meaning, Blocked, Sorts, Sample; and in proofs/, where what is assured is shown: Keeps, Meaning, Names, Uncrossed.
 pub mod Assured
 pub mod Times
-pub mod Keeps
 pub mod Meaning
 pub mod Blocked
 pub mod Sorts
-pub mod Names
-pub mod Uncrossed
 pub mod Sample

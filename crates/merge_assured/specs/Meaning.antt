@@ -1,5 +1,5 @@
--- The verdict on two lists of bytes is the verdict on their records. Assumes nothing.
-use Rattle.std.specs.Prelude.{◌≡◌, refl, ◌↔◌, ◌≢◌, Bool, true, false, ℕ, zero, suc, ◌+◌, ◌≤◌, length}
+-- The verdict on two lists of bytes is the verdict on their records; `proofs/Meaning` shows what it means. Assumes nothing.
+use Rattle.std.specs.Prelude.{◌≡◌, refl, ◌↔◌, ◌≢◌, Bool, true, false, ℕ, zero, suc, ◌+◌, ◌≤◌}
 use Rattle.std.proofs.Common.{sym, ap, ap₂, ◌∙◌, add-zero, zero-add, suc-add, add-suc, arith}
 use Rattle.std.proofs.Math.Path.{subst}
 use Rattle.std.proofs.Math.Option.{Option, none, some}
@@ -12,19 +12,12 @@ use Rattle.rules_exchange.specs.Independent.{independent}
 use Rattle.any_list.specs.Arrays.{table}
 use Rattle.any_list.specs.Tables.{table-ext}
 use Rattle.run_lists.specs.EventList.{node_count, record_count, record_at, records, need, length_fits, trailer_fits, nodes_fit, sum_fits, refusal}
-use Rattle.run_lists.specs.Good.{records-length}
-use Rattle.run.specs.Refusing.{ran-short}
-use Rattle.run_exchange.specs.Exchanges.{swaps-length}
-use Rattle.run_exchange.specs.Audit.{audit}
-use Rattle.merge_verdict.specs.Verdict.{Exchanges, Pulled, taken, blocked, missing, met, pull, when_taken, exchangeable, same_event, Independent, same_merge}
-use Rattle.merge_verdict.specs.Exact.{exact}
+use Rattle.merge_verdict.specs.Verdict.{Pulled, taken, blocked, missing, met, pull, when_taken, exchangeable, same_event, same_merge}
 use Rattle.merge_compare.specs.declared.Finding.{Finding}
 use Rattle.any_search.specs.Places.{from, seek}
 use Rattle.merge_compare.specs.Compare.{same, free, equal, obstacle, looked, compare}
 use Rattle.merge_compare.specs.Compared.{of_second, nodes_differ, refused, comparison, compared}
-use Rattle.merge_compare.specs.Refusing.{first-refused, second-refused, nodes-differ, both-good}
-use Rattle.merge_assured.specs.Assured.{Merges, SameMeans, Assured, SameAssures, SameShort}
-use Rattle.merge_assured.specs.Keeps.{keeps}
+use Rattle.merge_compare.specs.Refusing.{first-refused, second-refused, nodes-differ}
 
 -- ---- looking among places is looking among what stands there
 
@@ -120,48 +113,9 @@ comparable first second e = go (ℕ_discrete (refusal first) 0) (ℕ_discrete (r
     go (yes a) (yes b) (yes c) = record { one = a; other = b; nodes = c }
 
 module _ (first second : List ℕ) where
-  on-records : (comparison first second ≡ same) ↔ T (same_merge (node_count first) (records first) (records second))
+  pub on-records : (comparison first second ≡ same) ↔ T (same_merge (node_count first) (records first) (records second))
   unfolding same_merge
   on-records = subst (λ (fs : List Event). (comparison first second ≡ same) ↔ T (exchangeable (independent (node_count first)) same_event (records first) fs)) (all-places (record_at second) (record_count second))
       (subst (λ (es : List Event). (comparison first second ≡ same) ↔ T (exchangeable (independent (node_count first)) same_event es (map (record_at second) (from 0 (record_count second)))))
       (all-places (record_at first) (record_count first))
       (same-iff (node_count first) (record_at first) (record_at second) (from 0 (record_count first)) (from 0 (record_count second))))
-
-pub same-means : SameMeans
-same-means first second = (there, back)
-  where
-    there : compared first second ≡ same → Merges first second
-    there e =
-        let c = comparable first second (let z = verdict-of e in omega arith) in
-        let x = (exact (node_count first) (records first) (records second)).0 ((on-records first second).0 (sym (both-good first second c.one c.other c.nodes) ∙ e)) in
-        record {
-          places = x.places;
-          remerged = record { accepted = c.one; accepted' = c.other; nodes = sym c.nodes; exchanged = sym x.ends; allowed = x.allowed };
-        }
-
-    back : Merges first second → compared first second ≡ same
-    back m =
-        let r = m.remerged in
-        let x : Exchanges (Independent (node_count first)) (records first) (records second) = record { places = m.places; allowed = r.allowed; ends = sym r.exchanged } in
-        both-good first second r.accepted r.accepted' (sym r.nodes) ∙ (on-records first second).1 ((exact (node_count first) (records first) (records second)).1 x)
-
-pub same-assures : SameAssures
-same-assures first second out room = (there, λ a. (same-means first second).1 (record { places = a.places; remerged = a.remerged }))
-  where
-    there : compared first second ≡ same → Assured first second out
-    there e =
-        let m = (same-means first second).0 e in
-        let r = audit first second m.places out m.remerged room in
-        record { places = m.places; remerged = m.remerged; run = r; answers = keeps first second m.places out m.remerged r room }
-
--- Lists that are the same have as many records.
-same_size : (first second : List ℕ) → compared first second ≡ same → record_count second ≡ record_count first
-same_size first second e =
-    let m = (same-means first second).0 e in
-    sym (records-length second) ∙ ap length m.remerged.exchanged ∙ swaps-length m.places (records first) ∙ records-length first
-
-pub same-short : SameShort
-same-short first second out short e =
-    let c = comparable first second (let z = verdict-of e in omega arith) in
-    let n = same_size first second e in
-    (ran-short first out c.one short, ran-short second out c.other (omega arith))

@@ -40,6 +40,6 @@ module _ {A : Type 0} where
       go before (x ∷ behind) p = rw append_snoc at (go (before ++ (x ∷ [])) behind (f before x p))
 
   pub all-member : (P : A → Type 0) (x : A) (l : List A) → All P l → Memᴰ x l → P x
+  all-member P x [] h x3 = elim x3 [ ]
   all-member P x (y ∷ l) h (Memᴰ.head e) = rw e h.0
   all-member P x (y ∷ l) h (Memᴰ.tail m) = all-member P x l h.1 m
-  all-member P x [] h x3 = elim x3 [ ]

@@ -1,10 +1,8 @@
 -- Believed: KeptOut.
--- Definitions: Change.
--- Laws: Invariant, Steps, Growing, OldMaster, Mistakes.
+-- Definitions: Change, Invariant.
+-- Laws: Growing, Mistakes; and in proofs/, where a change is used: Invariant, Steps, OldMaster.
 pub mod KeptOut
 pub mod Change
 pub mod Invariant
-pub mod Steps
 pub mod Growing
-pub mod OldMaster
 pub mod Mistakes

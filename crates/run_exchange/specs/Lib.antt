@@ -1,7 +1,6 @@
--- Believed: SameRun, Merged.
--- Laws: Exchanges, Buffers, Audit.
+-- Believed: SameRun, Merged (and `merged` in proofs/Merged).
+-- Laws: Exchanges, Buffers; and in proofs/: Audit.
 pub mod SameRun
 pub mod Exchanges
 pub mod Buffers
-pub mod Audit
 pub mod Merged

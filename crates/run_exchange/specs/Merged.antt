@@ -1,11 +1,10 @@
--- Two merges of the same logs, in bytes (examples/merge-a.hex and merge-b.hex): what `Audited` asks of them holds, and so they run the same. Assumes nothing.
-use Rattle.std.specs.Prelude.{refl, List, [], ◌∷◌, ℕ, ◌≤◌, length}
+-- Two merges of the same logs, in bytes (examples/merge-a.hex and merge-b.hex): what `Audited` asks of them holds, and so they run the same: `proofs/Merged`. Assumes nothing.
+use Rattle.std.specs.Prelude.{refl, List, [], ◌∷◌, ℕ}
 use Rattle.rules.specs.Range.{within}
 use Rattle.rules_laws.specs.Computed.{computed}
 use Rattle.rules_exchange.specs.Independent.{listed, exists, independent}
 use Rattle.run_lists.specs.EventList.{number_at, refusal}
-use Rattle.run_exchange.specs.SameRun.{Remerged, SameRun}
-use Rattle.run_exchange.specs.Audit.{audit}
+use Rattle.run_exchange.specs.SameRun.{Remerged}
 
 -- First record at 0, 12 records, 2 nodes.
 abbrev trailer : List ℕ
@@ -32,7 +31,3 @@ remerged = record {
   exchanged = refl;
   allowed = (tt, (tt, (tt, (tt, (tt, (tt, (tt, (tt, (tt, (tt, tt))))))))));
 }
-
-pub merged : (out : List ℕ) → 4108 ≤ length out → SameRun late early exchanges out
-unfolding number_at
-merged out h = audit late early exchanges out remerged h

@@ -1,5 +1,4 @@
 -- Believed: Held.
--- Laws: Numbers, Read.
+-- Laws: Numbers; and in proofs/: Read.
 pub mod Held
 pub mod Numbers
-pub mod Read

@@ -1,7 +1,6 @@
--- What the code keeps is what the message says: scalar by scalar, embedded message by embedded message. Assumes nothing.
+-- What the code keeps is what the message says: scalar by scalar, embedded message by embedded message; `proofs/Seeing` has the whole message. Assumes nothing.
 use Rattle.std.specs.Prelude.{◌≡◌, refl, ◌≢◌, Bool, true, false, cond, List, ℕ, ◌-◌, eqb, take, drop}
-use Rattle.std.proofs.Common.{sym, ap, ap₂, ◌∙◌}
-use Rattle.std.proofs.Math.Option.{Option, some}
+use Rattle.std.proofs.Common.{sym, ap, ◌∙◌}
 use borrow.Author.Tests.{eq-eqb, ne_eqb}
 use Rattle.wire_fields.specs.Numbers.{Fault, code_of}
 use Rattle.wire_fields.specs.Fields.{Field, varint, fixed, bytes}
@@ -11,12 +10,10 @@ use Rattle.wire_fields.specs.Places.{field_of}
 use Rattle.wire_fields.specs.Found.{some-code}
 use Rattle.wire_fields.specs.Folding.{message-seen}
 use Rattle.wire_fields.specs.declared.Field as Placed
-use Rattle.wire_arbitration.specs.Update as Spec
-use Rattle.wire_arbitration.specs.Seen.{value, seen, refused_raw, settled, raw_of}
-use Rattle.wire_arbitration.specs.Raw.{see_scalar, last_at, see_first, Two, see_two, pair_of, with_device, with_role, with_election, with_status, see_bytes, see, message_onto}
+use Rattle.wire_arbitration.specs.Seen.{refused_raw, settled}
+use Rattle.wire_arbitration.specs.Raw.{see_scalar, last_at, see_first, Two, see_two, pair_of, with_device, with_role, with_election, with_status, see_bytes, see}
 use Rattle.wire_arbitration.specs.declared.Pair.{Pair}
 use Rattle.wire_arbitration.specs.declared.Raw.{Raw}
-use Rattle.wire_arbitration.specs.Choices.{either_same}
 
 -- ---- one scalar
 
@@ -64,54 +61,6 @@ module _ (t : Two) (held : List ℕ) (p : Pair) (is : p ≡ pair_of (message see
 
   pub loses-one : (put : ℕ → Raw) → p.code ≢ 0 → refused_raw p.code ≡ settled (mapped put (message see_first t.first held))
   loses-one put fault = loses-two (λ t. put t.first) fault ∙ one-put put
-
-value-if : (b : Bool) (v : ℕ) (old : Option ℕ) → value (cond b (some v) old) ≡ cond b v (value old)
-value-if true v old = refl
-value-if false v old = refl
-
-value-scalar : (n : ℕ) (f : Field) (old : Option ℕ) → value (Spec.scalar n f old) ≡ see_scalar n f (value old)
-value-scalar n (varint k v) old = value-if (eqb k n) v old
-value-scalar n (fixed k) old = refl
-value-scalar n (bytes k held) old = refl
-
--- ---- the whole message
-
--- An embedded message of any kind.
-module _ {A B : Type 0} (inside : Field → A → A) (look : Field → B → Reading B) (view : A → B) (each : (f : Field) (a : A) → whole (view (inside f a)) ≡ look f (view a)) where
-  embedded-seen : (u : Spec.Update) (put : Spec.Update → Option A → Spec.Update) (store : Raw → B → Raw) (blank : A) (old : Option A) (held : List ℕ)
-      → ((a : A) → seen (put u (some a)) ≡ store (seen u) (view a))
-      → mapped seen (mapped (put u) (Spec.embedded inside blank old held)) ≡ mapped (store (seen u)) (message look (view (Spec.or_else blank old)) held)
-  embedded-seen u put store blank old held e =
-      go (message table (Spec.or_else blank old) held) ∙ ap (mapped (store (seen u))) (message-seen table look view each held (Spec.or_else blank old))
-    where
-      table : Field → A → Reading A
-      table f a = whole (inside f a)
-
-      go : (r : Reading A) → mapped seen (mapped (put u) (mapped some r)) ≡ mapped (store (seen u)) (mapped view r)
-      go (whole a) = ap whole (e a)
-      go (broken why) = refl
-
-sees-field : (f : Field) (u : Spec.Update) → mapped seen (Spec.took f u) ≡ see f (seen u)
-unfolding see_bytes
-sees-field (varint k v) u = ap (λ (d : ℕ). whole (with_device (seen u) d)) (value-scalar 1 (varint k v) u.device)
-sees-field (fixed k) u = refl
-sees-field (bytes k held) u =
-    either_same (mapped seen) (eqb k 2)
-    (embedded-seen Spec.in_role see_first (λ r. value r.id) (λ f r. ap whole (value-scalar 1 f r.id)) u Spec.with_role with_role Spec.no_role u.role held (λ r. refl))
-    (either_same (mapped seen) (eqb k 3)
-    (embedded-seen Spec.in_election see_two (λ e. record { first = value e.high; second = value e.low })
-    (λ f e. ap₂ (λ (x y : ℕ). whole (record { first = x; second = y })) (value-scalar 1 f e.high) (value-scalar 2 f e.low)) u Spec.with_election with_election Spec.no_election u.election held (λ e. refl))
-    (either_same (mapped seen) (eqb k 4)
-    (embedded-seen Spec.in_status see_first (λ s. value s.code) (λ f s. ap whole (value-scalar 1 f s.code)) u Spec.with_status with_status Spec.no_status u.status held (λ s. refl))
-    refl))
-
--- On top of what an earlier message gave, and by itself.
-pub sees-onto : (u : Spec.Update) (l : List ℕ) → message_onto (seen u) l ≡ mapped seen (message Spec.took u l)
-sees-onto u l = sym (message-seen Spec.took see seen sees-field l u)
-
-pub sees-message : (l : List ℕ) → settled (message_onto (refused_raw 0) l) ≡ raw_of (Spec.reading l)
-unfolding Spec.reading
-sees-message l = ap settled (sees-onto Spec.nothing l)
 
 -- ---- the code stays 0 as long as there is no fault
 

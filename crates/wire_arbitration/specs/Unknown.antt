@@ -18,12 +18,12 @@ none_of false false true r s t z h = elim h [ ]
 none_of false true c r s t z h = elim h [ ]
 none_of true b c r s t z h = elim h [ ]
 
-not-this : (b : Bool) (value : ℕ) (old : Option ℕ) → T (not b) → cond b (some value) old ≡ old
-not-this false value old h = refl
-not-this true value old h = elim h [ ]
+not-this : (b : Bool) (new old : Option ℕ) → T (not b) → cond b new old ≡ old
+not-this false new old h = refl
+not-this true new old h = elim h [ ]
 
 not_scalar : (n : ℕ) (f : Field) → T (not (is_scalar n f)) → (old : Option ℕ) → scalar n f old ≡ old
-not_scalar n (varint k value) h old = not-this (eqb k n) value old h
+not_scalar n (varint k value) h old = not-this (eqb k n) _ old h
 not_scalar n (fixed k) h old = refl
 not_scalar n (bytes k held) h old = refl
 

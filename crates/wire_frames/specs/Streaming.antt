@@ -1,25 +1,20 @@
--- What the code keeps of a stream message is what the message carries. Assumes nothing.
-use Rattle.std.specs.Prelude.{◌≡◌, ◌≢◌, Bool, cond, List, [], ℕ, ◌+◌, ◌-◌, ◌≤◌, ◌<◌, leb, length, take, drop}
+-- What the code keeps of a stream message is what the message carries; `proofs/Streaming` has its arbitration message. Assumes nothing.
+use Rattle.std.specs.Prelude.{◌≡◌, ◌≢◌, Bool, List, ℕ, ◌-◌, ◌≤◌, ◌<◌, length, take, drop}
 use Rattle.std.proofs.Math.Path.{refl, sym, ap}
 use Rattle.std.proofs.Common.{◌∙◌}
 use Rattle.std.proofs.Math.Bool.{true, false}
 use native.Mathlib.Omega.{arith}
 use Rattle.std.proofs.Math.Dec.{eqb}
 use borrow.Author.Tests.{eq-eqb, ne_eqb, eqb-false, le-leb, lt-leb}
-use Rattle.wire_fields.specs.Numbers.{Fault, code_of}
-use Rattle.wire_fields.specs.Fields.{Field, varint, fixed, bytes}
-use Rattle.wire_fields.specs.Messages.{Reading, whole, broken, mapped, message}
+use Rattle.wire_fields.specs.Fields.{Field, bytes}
+use Rattle.wire_fields.specs.Messages.{Reading, whole, broken, message}
 use Rattle.wire_fields.specs.Places as Places
 use Rattle.wire_fields.specs.Places.{field_of}
 use Rattle.wire_fields.specs.Found.{FoundField, NoField, some-code}
 use Rattle.wire_fields.specs.Walking.{Walking, walking-starts, walking-ends, walking-faults, walking_on, walking-breaks}
 use Rattle.wire_fields.specs.declared.Field as Placed
-use Rattle.wire_arbitration.specs.Update as Update
-use Rattle.wire_arbitration.specs.Seen.{seen, refused_raw, settled, raw_of}
-use Rattle.wire_arbitration.specs.Raw.{message_onto}
-use Rattle.wire_arbitration.specs.Seeing.{sees-onto}
-use Rattle.wire_arbitration.specs.declared.Raw.{Raw}
-use Rattle.wire_frames.specs.Stream.{Carried, nothing, arbitration, other, known, took, carried}
+use Rattle.wire_arbitration.specs.Seen.{refused_raw}
+use Rattle.wire_frames.specs.Stream.{Carried, nothing, arbitration, other, took, carried}
 use Rattle.wire_frames.specs.Frames.{refused, frame_with, message_of}
 use Rattle.wire_frames.specs.declared.Frame.{Frame}
 
@@ -31,11 +26,6 @@ frame-with-code : (size : ℕ) (c : Carried) → (frame_with size c).code ≡ 0
 frame-with-code size nothing = refl
 frame-with-code size (arbitration u) = refl
 frame-with-code size (other k) = refl
-
-frame-with-fields : (size : ℕ) (c : Carried) → (frame_with size c).fields ≡ seen (known c)
-frame-with-fields size nothing = refl
-frame-with-fields size (arbitration u) = refl
-frame-with-fields size (other k) = refl
 
 -- ---- the field at a place, by its kind and number
 
@@ -52,7 +42,7 @@ module _ (l : List ℕ) (f : Placed.Field) (before : Frame) where
       go false h = let other = eqb-false f.kind 0 h in let one : f.kind ≡ 1 = omega arith in simp (h, eq-eqb f.kind 1 one) e
 
   module _ (is : 2 ≤ f.kind) where
-    stands : field_of l f ≡ bytes f.number (held_by l f)
+    pub stands : field_of l f ≡ bytes f.number (held_by l f)
     unfolding Places.field_of
     stands = simp (ne_eqb f.kind 0 (λ z. omega arith), ne_eqb f.kind 1 (λ z. omega arith))
 
@@ -64,31 +54,6 @@ module _ (l : List ℕ) (f : Placed.Field) (before : Frame) where
 
     pub takes-other : 2 ≤ f.number → f.number ≤ 5 → Takes (field_of l f) before (record { code = 0; kind = f.number; size = before.size; fields = refused_raw 0 })
     takes-other low high c e = rw stands (simp (ne_eqb f.number 1 (λ z. omega arith), le-leb 2 f.number low, le-leb f.number 5 high))
-
-    module _ (one : f.number ≡ 1) (r : Raw) (read : r ≡ settled (message_onto before.fields (held_by l f))) where
-      took_one : (c : Carried) → took (field_of l f) c ≡ mapped arbitration (message Update.took (known c) (held_by l f))
-      took_one c = rw stands (simp (eq-eqb f.number 1 one))
-
-      -- What was read is what the message says, on top of what was carried.
-      read-so : (c : Carried) → before ≡ frame_with before.size c → r ≡ raw_of (message Update.took (known c) (held_by l f))
-      read-so c e =
-          read
-          ∙ ap (λ (b : Raw). settled (message_onto b (held_by l f))) (ap (λ (b : Frame). b.fields) e ∙ frame-with-fields before.size c)
-          ∙ ap settled (sees-onto (known c) (held_by l f))
-
-      pub takes-arbitration : r.code ≡ 0 → Takes (field_of l f) before (record { code = 0; kind = 1; size = before.size; fields = r })
-      takes-arbitration zero c e = rw (took_one c) (go (message Update.took (known c) (held_by l f)) (read-so c e))
-        where
-          go : (s : Reading Update.Update) → r ≡ raw_of s → record { code = 0; kind = 1; size = before.size; fields = r } ≡ message_of before.size (mapped arbitration s)
-          go (whole u) same = ap (λ (x : Raw). record { code = 0; kind = 1; size = before.size; fields = x }) same
-          go (broken why) same = absurd (some-code why (sym (ap (λ (x : Raw). x.code) same) ∙ zero))
-
-      pub takes-fault : r.code ≢ 0 → Takes (field_of l f) before (refused r.code)
-      takes-fault some c e = rw (took_one c) (go (message Update.took (known c) (held_by l f)) (read-so c e))
-        where
-          go : (s : Reading Update.Update) → r ≡ raw_of s → refused r.code ≡ message_of before.size (mapped arbitration s)
-          go (whole u) same = absurd (some (ap (λ (x : Raw). x.code) same))
-          go (broken why) same = ap (λ (x : Raw). refused x.code) same
 
 -- ---- the loop over the fields
 

@@ -1,7 +1,7 @@
 use mathlib.Core.Path.{ap, ◌∙◌}
 use Rattle.wire_arbitration.specs.Seen.{settled}
 use Rattle.wire_arbitration.specs.Raw.{message_onto}
-use Rattle.wire_arbitration.specs.Seeing.{sees-message}
+use Rattle.wire_arbitration.proofs.Seeing.{sees-message}
 use Rattle.wire_arbitration.specs.declared.Raw.{Raw}
 use Rattle.wire_arbitration.proofs.read_raw.Goals as goal
 

@@ -13,7 +13,7 @@ use Rattle.merge_verdict.specs.Pairs.{kept}
 use Rattle.merge_verdict.specs.Clocks.{Logged, events, of_log, SameLogs, Timely, fixed, NoDoubt, ClockVerdict}
 use Rattle.merge_verdict.specs.Kept.{not-nil, kept_same, kept-swap, all-behind, all-only}
 use Rattle.merge_verdict.specs.Chains.{still, two, chain, under, exchanges-map}
-use Rattle.merge_verdict.specs.Exact.{by-exchanges}
+use Rattle.merge_verdict.proofs.Exact.{by-exchanges}
 
 self : (n : ℕ) → eqb n n ≡ true
 self n = eq-eqb n n refl

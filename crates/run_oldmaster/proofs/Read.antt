@@ -17,7 +17,7 @@ use Rattle.run_text.specs.Transcript.{transcript}
 use Rattle.run.specs.Whole.{all-answered}
 use Rattle.rules_oldmaster.specs.KeptOut.{KeptOut}
 use Rattle.rules_oldmaster.specs.Growing.{nothing-before}
-use Rattle.rules_oldmaster.specs.OldMaster.{kept_out}
+use Rattle.rules_oldmaster.proofs.OldMaster.{kept_out}
 use Rattle.run_oldmaster.specs.Numbers.{same_writes}
 use Rattle.run_oldmaster.specs.Held.{writes_returned, history_part, writes_held, BytesKeptOut, PrintedKeptOut}
 

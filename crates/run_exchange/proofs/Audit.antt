@@ -8,7 +8,7 @@ use Rattle.rules.specs.Run.{run}
 use Rattle.rules_laws.specs.Steps.{fresh-fits}
 use Rattle.rules_laws.specs.Runs.{run_length}
 use Rattle.rules_exchange.specs.Claim.{swaps, Exchanged}
-use Rattle.rules_exchange.specs.Exchange.{exchange}
+use Rattle.rules_exchange.proofs.Exchange.{exchange}
 use Rattle.run_lists.specs.EventList.{node_count, record_count, records, refusal, history_bytes}
 use Rattle.run_lists.specs.Good.{good, records-length}
 use Rattle.run_lists.specs.Written.{history-length}

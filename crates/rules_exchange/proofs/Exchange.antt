@@ -14,8 +14,9 @@ use Rattle.rules_laws.specs.Steps.{step_keeps, step_count}
 use Rattle.rules_exchange.specs.Independent.{lines, listed, calls, exists, independent}
 use Rattle.rules_exchange.specs.Claim.{Claim3}
 use Rattle.rules_exchange.specs.Apart.{Apart, apart-sym, Commute, via-commute}
-use Rattle.rules_exchange.specs.Listed.{either, listed-apart}
+use Rattle.rules_exchange.specs.Listed.{either}
 use Rattle.rules_exchange.specs.Commutes.{runs-state, runs-answers}
+use Rattle.rules_exchange.proofs.Listed.{listed-apart}
 
 -- ---- two independent steps, as rules over parts
 

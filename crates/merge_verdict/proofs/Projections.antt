@@ -8,7 +8,7 @@ use Rattle.merge_verdict.specs.Verdict.{Exchanges, taken, behind, pull, exchange
 use Rattle.merge_verdict.specs.Pairs.{kept, only, ByPairs}
 use Rattle.merge_verdict.specs.Kept.{not-nil, kept_same, kept-swap}
 use Rattle.merge_verdict.specs.Steps.{same-eq, same_refl, independent-sym, independent-self}
-use Rattle.merge_verdict.specs.Exact.{sound}
+use Rattle.merge_verdict.proofs.Exact.{sound}
 
 module _ {E : Type 0} (free same : E → E → Bool) (same-eq : (x y : E) → T (same x y) → x ≡ y) (same_refl : (x : E) → same x x ≡ true)
     (free-sym : (x y : E) → free x y ≡ free y x) (free-self : (x : E) → free x x ≡ false) where

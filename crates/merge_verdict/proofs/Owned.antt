@@ -13,7 +13,7 @@ use Rattle.rules_exchange.specs.Independent.{node_kinds, other_nodes, lines, nam
 use Rattle.rules_exchange.specs.Listed.{either}
 use Rattle.merge_verdict.specs.Clocks.{Logged, Timely, fixed, NoDoubt}
 use Rattle.merge_verdict.specs.Own.{Own, OwnActs, OwnLogs}
-use Rattle.merge_verdict.specs.Merging.{clock-verdict}
+use Rattle.merge_verdict.proofs.Merging.{clock-verdict}
 
 called-own : (count n : ℕ) (ks : List ℕ) → All (λ k. calls (kind_of k) count n ≡ within 1 count n) ks → (k : ℕ) → T (has k ks) → calls (kind_of k) count n ≡ within 1 count n
 unfolding has

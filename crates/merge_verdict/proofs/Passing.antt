@@ -1,6 +1,6 @@
 -- Exchanges of neighbours of different logs, where the clocks allow the other order, keep a merge one that they allow; and so is a merge that is sorted by
 -- time. Assumes nothing.
-use Rattle.std.specs.Prelude.{◌≡◌, refl, Bool, List, [], ◌∷◌, ℕ, zero, suc, ◌+◌, ◌≤◌, T, eqb}
+use Rattle.std.specs.Prelude.{refl, Bool, List, [], ◌∷◌, ℕ, zero, suc, ◌+◌, ◌≤◌, T, eqb}
 use Rattle.std.proofs.Common.{sym, ap, subst, ◌∙◌, arith, eqb→eq, le-leb}
 use Rattle.rules_laws.specs.All.{All}
 use Rattle.rules_laws.specs.Lists.{all-each}

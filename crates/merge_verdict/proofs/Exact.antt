@@ -7,7 +7,7 @@ use Rattle.rules.specs.Step.{Event, step}
 use Rattle.rules.specs.Run.{run}
 use Rattle.rules_exchange.specs.Independent.{independent}
 use Rattle.rules_exchange.specs.Claim.{swap_at, swaps, Neighbours, Allowed}
-use Rattle.rules_exchange.specs.Exchange.{exchange}
+use Rattle.rules_exchange.proofs.Exchange.{exchange}
 use Rattle.merge_verdict.specs.Verdict.{Exchanges, Pulled, taken, blocked, missing, behind, met, pull, when_taken, exchangeable, same_event, Independent, same_merge, Exact, Same, Promise}
 use Rattle.merge_verdict.specs.Chains.{still, two, chain, under}
 use Rattle.merge_verdict.specs.Steps.{same-eq, same_refl, independent-self}

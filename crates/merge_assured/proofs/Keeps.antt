@@ -1,12 +1,12 @@
 -- Where exchanges of independent neighbours lead from one list to another, each record stands in both, at one place, and has one answer. Assumes nothing.
-use Rattle.std.specs.Prelude.{◌≡◌, refl, Bool, true, false, List, [], ◌∷◌, ℕ, zero, suc, ◌+◌, ◌≤◌, ◌<◌, T, length, get_or, take}
+use Rattle.std.specs.Prelude.{◌≡◌, refl, Bool, true, false, List, [], ◌∷◌, ℕ, zero, suc, ◌+◌, ◌≤◌, ◌<◌, length, get_or, take}
 use Rattle.std.proofs.Common.{sym, ap, subst, ◌∙◌, le_of_suc-le-suc, arith, get_or-take}
 use Rattle.std.proofs.Math.Decide.{dec_lt}
 use Rattle.rules.specs.Step.{Event, step, fresh}
 use Rattle.rules_laws.specs.Runs.{run_length}
 use Rattle.rules_exchange.specs.Claim.{swap_at, swaps, Neighbours, Allowed}
 use Rattle.any_list.specs.Tables.{table-get}
-use Rattle.run_lists.specs.EventList.{byte_at, node_count, record_count, record_at, records, refusal, history_bytes}
+use Rattle.run_lists.specs.EventList.{node_count, record_count, record_at, records, refusal, history_bytes}
 use Rattle.run_lists.specs.Good.{records-length}
 use Rattle.run.specs.Ran.{history_room, whole_run, Ran, ran}
 use Rattle.run.specs.Refusing.{ran-all}

@@ -7,12 +7,12 @@ use Rattle.run_lists.specs.EventList.{node_count, record_count, record_at, recor
 use Rattle.merge_verdict.specs.Verdict.{same_event}
 use Rattle.merge_verdict.specs.Pairs.{kept, only_pair}
 use Rattle.merge_verdict.specs.Steps.{same_refl}
-use Rattle.merge_verdict.specs.Exact.{exact}
-use Rattle.merge_verdict.specs.Projections.{verdict-by-pairs}
+use Rattle.merge_verdict.proofs.Exact.{exact}
+use Rattle.merge_verdict.proofs.Projections.{verdict-by-pairs}
 use Rattle.merge_letters.specs.Letters.{bit}
 use Rattle.merge_assured.specs.Assured.{times, SameUncrossed}
 use Rattle.merge_assured.specs.Times.{times_more, times-grow, times-passed}
-use Rattle.merge_assured.specs.Meaning.{same-means}
+use Rattle.merge_assured.proofs.Meaning.{same-means}
 
 module _ (x y : Event) where
   -- How many x come before the y that has k others before it: this one is y or not, is x or not; and how many come behind it.

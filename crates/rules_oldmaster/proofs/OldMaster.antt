@@ -17,8 +17,9 @@ use Rattle.rules_laws.specs.Runs.{run-state}
 use Rattle.rules_oldmaster.specs.KeptOut.{state_after, service_after, history_after, Named, Accepted, OldMastersKeptOut}
 use Rattle.rules_oldmaster.specs.Growing.{nothing-before, FirstPart, all, part, first_part, same_end, one_by_one, all-member}
 use Rattle.rules_oldmaster.specs.Change.{HistoryChange, kept, Accepts, accepts, Change}
-use Rattle.rules_oldmaster.specs.Invariant.{by, Lawful, accepted-term, accepted-named, lawful-step}
-use Rattle.rules_oldmaster.specs.Steps.{step-changes}
+use Rattle.rules_oldmaster.specs.Invariant.{by, Lawful}
+use Rattle.rules_oldmaster.proofs.Invariant.{accepted-term, accepted-named, lawful-step}
+use Rattle.rules_oldmaster.proofs.Steps.{step-changes}
 
 -- ---- moments
 

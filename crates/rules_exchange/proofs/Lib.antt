@@ -1,0 +1,3 @@
+-- Laws: Listed, Exchange.
+pub mod Listed
+pub mod Exchange

@@ -1,0 +1,4 @@
+-- Laws: Invariant, Steps, OldMaster.
+pub mod Invariant
+pub mod Steps
+pub mod OldMaster

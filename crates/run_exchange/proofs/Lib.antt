@@ -1,0 +1,4 @@
+-- Believed: Merged.
+-- Laws: Audit.
+pub mod Audit
+pub mod Merged

@@ -1,0 +1,2 @@
+-- Laws: Read.
+pub mod Read

@@ -1,0 +1,3 @@
+-- Laws: Concatenation, Seeing.
+pub mod Concatenation
+pub mod Seeing

@@ -1,0 +1,2 @@
+-- Laws: Streaming.
+pub mod Streaming
