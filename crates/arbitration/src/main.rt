@@ -1,21 +1,23 @@
 // Reads the bytes of one arbitration message from standard input, and prints its fields.
 #![tactic(auto)]
-use files::Input;
-use libc::STDERR_FILENO;
 
-fn main() {
+use files::Input;
+use std::process::ExitCode;
+
+fn main(rt: HostRuntime) -> ExitCode {
     // One byte more than the longest message, so that a longer one is seen.
     let mut message = [0u8; wire_text::LONGEST + 1];
-    let Input::Whole(n) = files::read_input(&mut message) else {
-        return;
+    let Input::Whole(n) = files::read_input(&rt, &mut message) else {
+        return ExitCode::SUCCESS;
     };
     let mut text = [0u8; wire_text::LONGEST_TEXT];
     let length = wire_text::printout(&message[..n], &mut text);
-    files::print(&text[..length]);
+    let output = files::print(&rt, &text[..length]);
     if wire_frames::looks_streamed(&message[..n]) {
-        io::write_all(
-            STDERR_FILENO,
+        files::warn(
+            &rt,
             b"arbitration: this looks like a stream message; captured reads those\n",
         );
     }
+    output.status()
 }

@@ -1,8 +1,10 @@
 // Reads the frames of a captured stream from standard input, one after another, and prints what each carries.
 #![tactic(auto)]
+
 ghost use Rattle.std.specs.Prelude.{◌≤◌, length};
 
-use files::Input;
+use files::{Input, Output};
+use std::process::ExitCode;
 use wire_frames::Frame;
 
 // A head, and the longest message that a frame may hold.
@@ -20,11 +22,11 @@ enum Next {
 }
 
 // Reads a frame into the buffer, its head first.
-fn read_next(space: &mut [u8]) -> Next
+fn read_next(rt: &HostRuntime, space: &mut [u8]) -> Next
     requires { 5 ≤ length space.old }
 {
     let head = wire_frames::HEAD;
-    let Input::Whole(n) = files::read_input(&mut space[..head]) else {
+    let Input::Whole(n) = files::read_input(rt, &mut space[..head]) else {
         return Next::Failed;
     };
     if n == 0 {
@@ -35,51 +37,52 @@ fn read_next(space: &mut [u8]) -> Next
         return Next::Read(wire_frames::refused(TOO_LONG));
     }
     let end = head + held;
-    let Input::Whole(more) = files::read_input(&mut space[head..end]) else {
+    let Input::Whole(more) = files::read_input(rt, &mut space[head..end]) else {
         return Next::Failed;
     };
     let all = n + more;
     Next::Read(wire_frames::read_frame(&space[..all]))
 }
 
-// Prints the text of a frame, and answers whether to go on: not after a refusal, and not where the text could not be written.
-fn printed(number: u64, offset: u64, frame: Frame) -> bool {
+// Prints the text of a frame.
+fn print_frame(rt: &HostRuntime, number: u64, offset: u64, frame: Frame) -> Output {
     let mut text = [0u8; wire_frames_text::LONGEST_TEXT];
     let length = wire_frames_text::shown(number, offset, frame, &mut text);
-    if files::print(&text[..length]) {
-        return frame.code == wire_fields::READ;
-    }
-    false
+    files::print(rt, &text[..length])
 }
 
-fn print_end(number: u64) {
+fn print_end(rt: &HostRuntime, number: u64) -> Output {
     let mut text = [0u8; wire_frames_text::LONGEST_TEXT];
     let length = wire_frames_text::ended(number, &mut text);
-    files::print(&text[..length]);
+    files::print(rt, &text[..length])
 }
 
-fn main() {
+fn main(rt: HostRuntime) -> ExitCode {
     let mut room = [0u8; ROOM];
     let space: &mut [u8] = &mut room;
     let mut number: u64 = 0;
     let mut offset: u64 = 0;
     while number < 0xFFFF_FFFF_FFFF_FFFF {
-        let next = read_next(space);
+        let next = read_next(&rt, space);
         match next {
             Next::Failed => {
-                return;
+                return ExitCode::SUCCESS;
             }
             Next::End => {
-                print_end(number);
-                return;
+                return print_end(&rt, number).status();
             }
             Next::Read(frame) => {
                 number += 1;
-                if !printed(number, offset, frame) {
-                    return;
+                let output = print_frame(&rt, number, offset, frame);
+                if !output.is_whole() {
+                    return output.status();
                 }
-                offset = std::num::wrapping_add_u64(offset, frame.size as u64);
+                if frame.code != wire_fields::READ {
+                    return ExitCode::SUCCESS;
+                }
+                offset = offset.wrapping_add(frame.size as u64);
             }
         }
     }
+    ExitCode::SUCCESS
 }

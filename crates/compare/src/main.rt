@@ -1,22 +1,23 @@
 // Compares the two event lists that its arguments name: whether they are merges of the same logs that cannot differ in the writes accepted, and what running both gives.
 #![tactic(auto)]
-use files::Input;
 
-fn main() {
-    if os::arg_count() != 3 {
-        files::print(b"usage: compare FIRST SECOND\n");
-        return;
+use files::Input;
+use std::process::ExitCode;
+
+fn main(rt: HostRuntime) -> ExitCode {
+    if !files::argument_count_is(&rt, 3) {
+        return files::print(&rt, b"usage: compare FIRST SECOND\n").status();
     }
     // One byte more than the longest list, so that a longer one is seen.
     let mut first = [0u8; run_lists::LONGEST + 1];
-    let Input::Whole(n) = files::read_argument(1, b"refused first file\n", &mut first) else {
-        return;
+    let Input::Whole(n) = files::read_argument(&rt, 1, b"refused first file\n", &mut first) else {
+        return ExitCode::SUCCESS;
     };
     let mut second = [0u8; run_lists::LONGEST + 1];
-    let Input::Whole(m) = files::read_argument(2, b"refused second file\n", &mut second) else {
-        return;
+    let Input::Whole(m) = files::read_argument(&rt, 2, b"refused second file\n", &mut second) else {
+        return ExitCode::SUCCESS;
     };
     let mut text = [0u8; merge_text::LONGEST_REPORT];
     let length = merge_text::report(&first[..n], &second[..m], &mut text);
-    files::print(&text[..length]);
+    files::print(&rt, &text[..length]).status()
 }

@@ -1,9 +1,12 @@
 -- What was read lies within the buffer.
-use Rattle.std.specs.Prelude.{ℕ, ◌≡◌, List}
+use Rattle.std.specs.Prelude.{ℕ, ◌≡◌, ◌≤◌, List, length, take}
 use Rattle.std.proofs.Common.{subst}
-use Rattle.io.specs.Counts.{IsPrefixLen}
 use Rattle.files.specs.declared.Input.{Input}
 use Rattle.files.specs.declared.Input.TheVariants.{Whole, Refused}
+
+-- n bytes from the start on are there. The second part follows from the first.
+abbrev pub IsPrefixLen : ℕ → List ℕ → Type 0
+IsPrefixLen n bytes = (n ≤ length bytes) × (n ≡ length (take n bytes))
 
 abbrev pub Within : Input → List ℕ → Type 0
 Within (Whole n) bytes = IsPrefixLen n bytes

@@ -1,7 +1,8 @@
 // Reads the merged log that its argument names, and prints whether every merge that the clocks allow accepts the same writes, or which pairs of records are in doubt.
 #![tactic(auto)]
+
 use files::Input;
-use libc::STDERR_FILENO;
+use std::process::ExitCode;
 
 // A log of more bytes than this may take a while.
 const LONG: usize = 65536;
@@ -11,19 +12,18 @@ fn room() -> [u8; log_read::LONGEST + 1] {
     [0u8; log_read::LONGEST + 1]
 }
 
-fn main() {
-    if os::arg_count() != 2 {
-        files::print(b"usage: merges FILE\n");
-        return;
+fn main(rt: HostRuntime) -> ExitCode {
+    if !files::argument_count_is(&rt, 2) {
+        return files::print(&rt, b"usage: merges FILE\n").status();
     }
     let mut log = room();
-    let Input::Whole(n) = files::read_argument(1, b"refused file\n", &mut log) else {
-        return;
+    let Input::Whole(n) = files::read_argument(&rt, 1, b"refused file\n", &mut log) else {
+        return ExitCode::SUCCESS;
     };
     if LONG < n {
-        io::write_all(STDERR_FILENO, b"merges: comparing the records\n");
+        files::warn(&rt, b"merges: comparing the records\n");
     }
     let mut text = [0u8; log_text::LONGEST_ANSWER];
     let length = log_text::answer(&log[..n], &mut text);
-    files::print(&text[..length]);
+    files::print(&rt, &text[..length]).status()
 }

@@ -1,14 +1,16 @@
 // Reads an event list from standard input, runs it, and prints the answers and the accepted writes.
 #![tactic(auto)]
-use files::Input;
 
-fn main() {
+use files::Input;
+use std::process::ExitCode;
+
+fn main(rt: HostRuntime) -> ExitCode {
     // One byte more than the longest list, so that a longer one is seen.
     let mut list = [0u8; run_lists::LONGEST + 1];
-    let Input::Whole(n) = files::read_input(&mut list) else {
-        return;
+    let Input::Whole(n) = files::read_input(&rt, &mut list) else {
+        return ExitCode::SUCCESS;
     };
     let mut text = [0u8; run_text::LONGEST_TEXT];
     let length = run_text::transcript(&list[..n], &mut text);
-    files::print(&text[..length]);
+    files::print(&rt, &text[..length]).status()
 }

@@ -8,7 +8,10 @@
 //     =I0           the election id that the switch holds at place 0: node 1's
 //     =M0  =L0      the switch's master, and the largest id
 #![tactic(auto)]
-use files::Input;
+
+use files::{Input, Output};
+use std::fmt::InlineText;
+use std::process::ExitCode;
 use step::Report;
 use step_state::{Claims, History, State};
 
@@ -90,17 +93,17 @@ fn answer(state: State, what: u8, n: u8) -> Shown {
     }
 }
 
-// Whether both could be printed.
-fn printed(text: &[u8], number: u64) -> bool {
-    let mut digits = [0u8; 20];
-    let k = io::decimal(number, &mut digits);
-    if files::print(text) {
-        return files::print(&digits[..k]);
+// Prints a text, and the number behind it.
+fn print_answer(rt: &HostRuntime, text: &[u8], number: u64) -> Output {
+    let digits = InlineText::<20>::of(number);
+    let output = files::print(rt, text);
+    if !output.is_whole() {
+        return output;
     }
-    false
+    files::print(rt, digits.as_str().as_bytes())
 }
 
-fn play(script: &[u8]) {
+fn play(rt: &HostRuntime, script: &[u8]) -> Output {
     let made = step::fresh(1);
     let mut state = made.state;
     let mut from: usize = 0;
@@ -108,8 +111,9 @@ fn play(script: &[u8]) {
     while i + 2 < script.len() {
         if script[i] == b'=' {
             let given = answer(state, script[i + 1], script[i + 2] & 15);
-            if !printed(&script[from..i], given.number) {
-                return;
+            let output = print_answer(rt, &script[from..i], given.number);
+            if !output.is_whole() {
+                return output;
             }
             let next = given.state;
             state = next;
@@ -119,13 +123,13 @@ fn play(script: &[u8]) {
             i += 1;
         }
     }
-    files::print(&script[from..]);
+    files::print(rt, &script[from..])
 }
 
-fn main() {
-    let mut script = io::buffer();
-    let Input::Whole(n) = files::read_input(&mut script) else {
-        return;
+fn main(rt: HostRuntime) -> ExitCode {
+    let mut script = [0u8; 4096];
+    let Input::Whole(n) = files::read_input(&rt, &mut script) else {
+        return ExitCode::SUCCESS;
     };
-    play(&script[..n]);
+    play(&rt, &script[..n]).status()
 }
