@@ -3,7 +3,7 @@ use Rattle.std.specs.Prelude.{◌≡◌, length, get_or, set, drop}
 use Rattle.std.proofs.Math.Path.{refl, ap}
 use Rattle.std.proofs.Common.{◌∙◌, le_of_suc-le-suc, add-one, arith, drop_of_length-le, drop-cons}
 use mathlib.Core.List.{List, [], ◌∷◌}
-use Prim.Native.Nat.{ℕ, zero, suc, ◌+◌, ◌-◌, ◌<◌, ◌≤◌}
+use Prim.Native.Nat.{ℕ, zero, suc, ◌+◌, ◌<◌, ◌≤◌}
 use Rattle.rules.specs.Queues.{push}
 use Rattle.any_list.specs.Arrays.{column}
 

@@ -1,6 +1,7 @@
 // The lines of the program's output, put into a lent buffer. Each function puts its bytes at a place of the buffer and answers the place behind
 // them. It asks for room for them and for nothing else.
 #![tactic(auto)]
+
 ghost use Rattle.std.specs.Prelude.{[], ◌∷◌, ◌+◌, ◌*◌, ◌≤◌, length};
 ghost use Rattle.any_text.specs.Decimal.{decimal};
 ghost use Rattle.any_text.specs.Lines.{number, record_line, writes_line, write_line, refused_line};

@@ -3,7 +3,6 @@ use Rattle.std.specs.Prelude.{◌≡◌, Bool, true, false, not, length, get_or,
 use Rattle.std.proofs.Math.Path.{refl, ap, ap₂}
 use Rattle.std.proofs.Common.{sym, ◌∙◌, true≢false, le_of_suc-le-suc, arith, length-drop, get_or-drop, drop-drop, drop-cons, take_all}
 use Rattle.std.specs.Bool.{beq}
-use Rattle.std.proofs.Math.Option.{none}
 use mathlib.Core.List.{List, [], ◌∷◌}
 use Prim.Native.Nat.{ℕ, zero, suc, ◌+◌, ◌-◌, ◌≤◌, ◌<◌}
 use Rattle.std.proofs.Math.Decide.{dec_lt}

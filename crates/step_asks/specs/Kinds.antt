@@ -1,12 +1,11 @@
 -- The kinds by their numbers, as the code tells them apart. Assumes nothing.
 use Rattle.std.specs.Prelude.{◌≡◌, refl, ◌≢◌, Bool, true, false, cond, ◌&&◌, ◌||◌, eqb, leb}
 use Rattle.std.proofs.Common.{sym, subst, arith, le-leb}
-use Prim.Native.Nat.{ℕ, zero, suc, ◌-◌, ◌≤◌, ◌<◌}
+use Prim.Native.Nat.{ℕ, zero, suc, ◌≤◌, ◌<◌}
 use Rattle.std.proofs.Math.Decide.{ℕ_discrete}
 use Rattle.std.proofs.lemmas.Bool.{lt-leb}
 use Rattle.rules.specs.Codes.{step_done, unknown_kind, wrong_node}
 use Rattle.rules.specs.Range.{within}
-use Rattle.rules.specs.Rules as R
 use Rattle.rules.specs.Step.{kind_of}
 use Rattle.rules_laws.specs.InRange.{Within}
 use Rattle.rules_laws.specs.Kinds.{of_none, of_node, of-power}

@@ -1,5 +1,5 @@
 -- What the code stores into the structs of a state is what the rule's class writes into the state. Assumes nothing.
-use Rattle.std.specs.Prelude.{◌≡◌, Bool, ℕ, ◌-◌, ◌<◌, length, get_or, set}
+use Rattle.std.specs.Prelude.{◌≡◌, Bool, ℕ, ◌<◌, length, get_or, set}
 use Rattle.std.proofs.Common.{sym, get_or-set_same, get_or-set_other}
 use Rattle.std.proofs.Math.Path.{ap, ap₂}
 use Rattle.std.proofs.Math.Bool.{false}

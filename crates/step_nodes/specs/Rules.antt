@@ -20,7 +20,6 @@ use Rattle.step_parts.specs.declared.Mastership.{Mastership}
 use Rattle.step_parts.specs.declared.Response.{Response}
 use Rattle.step_parts.specs.declared.EventQueue.{EventQueue}
 use Rattle.step_parts.specs.declared.ResponseQueue.{ResponseQueue}
-use Rattle.step_parts.specs.declared.Message.{Message}
 use Rattle.step_state.specs.Order.{OrderedController, OrderedStream}
 use Rattle.step_state.specs.Reads.{inbox_of, sender_of, receiver_of}
 use Rattle.step_state.specs.declared.Controller.{Controller}

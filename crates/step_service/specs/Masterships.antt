@@ -6,7 +6,6 @@ use Rattle.std.proofs.Math.Bool.{false}
 use mathlib.Core.List.{List, [], ◌∷◌, ◌++◌}
 use Rattle.std.proofs.Math.ListN.{length, set}
 use Rattle.rules.specs.Limits.{most_backups}
-use Rattle.rules.specs.State as S
 use Rattle.rules.specs.Queues.{push, first, rest, empty, has}
 use Rattle.rules.specs.Ids.{named}
 use Rattle.rules.specs.Rules.{vacant, joined, left, hands_over}

@@ -1,5 +1,5 @@
 -- Seven bits more above a number, by mask and shift: the law that joins the groups. Assumes nothing.
-use Rattle.std.specs.Prelude.{◌≡◌, ℕ, ◌+◌, ◌*◌, ◌-◌, ◌%◌, ◌^◌, ◌<◌}
+use Rattle.std.specs.Prelude.{◌≡◌, ℕ, ◌+◌, ◌*◌, ◌%◌, ◌^◌, ◌<◌}
 use Rattle.std.proofs.Common.{mod-eq_of_lt, mul_comm, add_comm}
 use Rattle.std.specs.Int.Bits.{bit_and, bit_or, or_shifted_r}
 use Rattle.std.proofs.lemmas.Nat.{and_mask}

@@ -1,5 +1,6 @@
 // Protobuf's wire format: numbers, tags and fields, read at a place of a message.
 #![tactic(auto)]
+
 ghost use Rattle.std.specs.Prelude.{◌≡◌, ◌*◌, ◌%◌, ◌^◌, ◌<◌, ◌≤◌, length, drop};
 ghost use Rattle.wire_fields.specs.Groups.{joined};
 ghost use Rattle.wire_fields.specs.Places.{first_byte, no_number, number_at, no_field, found_field, field_at};

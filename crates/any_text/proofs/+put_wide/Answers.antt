@@ -3,7 +3,7 @@ use Prim.Native.Nat.{◌%◌}
 use native.Mathlib.Omega.{arith}
 use Rattle.any_text.specs.Decimal.{digit}
 use Rattle.any_text.specs.Digits.{decimal-last, decimal-more}
-use Rattle.any_text.specs.Puts.{put_then, put-length, room-first, room-then}
+use Rattle.any_text.specs.Puts.{put_then, room-first, room-then}
 use Rattle.any_text.proofs.+put_wide.Goals as goal
 
 pub put_byte-requires : goal.put_byte-requires

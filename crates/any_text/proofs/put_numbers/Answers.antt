@@ -1,5 +1,3 @@
-use Prim.Native.Nat.{◌-◌}
-use Rattle.any_text.specs.Puts.{put-length}
 use Rattle.any_text.specs.Spacing.{spaced-none, spaced-more, room-blank, room-number, spaced-all}
 use Rattle.any_text.proofs.put_numbers.Goals as goal
 

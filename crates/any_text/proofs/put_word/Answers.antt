@@ -1,7 +1,6 @@
-use Prim.Native.Nat.{◌-◌}
 use native.Mathlib.Omega.{arith}
 use lib.Seq.{take_all}
-use Rattle.any_text.specs.Puts.{put-none, put-more, put-length, room-more}
+use Rattle.any_text.specs.Puts.{put-none, put-more, room-more}
 use Rattle.any_text.proofs.put_word.Goals as goal
 
 pub loop-i-init : goal.loop-i-init

@@ -1,4 +1,3 @@
-use Prim.Native.Nat.{◌-◌}
 use borrow.Author.Tests.{eq-eqb, ne_eqb}
 use Rattle.any_search.specs.Seek.{seek-starts, seek-more, seek-hits, seek-ends}
 use native.Mathlib.Omega.{arith}

@@ -1,5 +1,4 @@
 use mathlib.Core.Path.{sym, ◌∙◌}
-use Prim.Native.Nat.{◌-◌}
 use Rattle.any_search.specs.Seek.{seek-starts, seek-more, seek-hits, seek-ends}
 use Rattle.any_words.specs.Words.{blank-asked}
 use native.Mathlib.Omega.{arith}

@@ -1,5 +1,4 @@
 use mathlib.Core.Path.{sym, ◌∙◌}
-use Prim.Native.Nat.{◌-◌}
 use Rattle.any_words.specs.Numbers.{too_long, said-none, said-bad, is-digit, said_fits, said_more, said_all}
 use native.Mathlib.Omega.{arith}
 use Rattle.any_words.proofs.read_number.Goals as goal

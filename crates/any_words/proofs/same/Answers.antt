@@ -1,4 +1,3 @@
-use Prim.Native.Nat.{◌-◌}
 use Rattle.any_words.specs.Same.{not_same, matching-starts, matching-stops, matching-more, matching-ends}
 use Rattle.any_words.proofs.same.Goals as goal
 

@@ -1,4 +1,3 @@
-use Prim.Native.Nat.{◌-◌}
 use Rattle.list_words.specs.Naming.{naming-starts, naming-stops, naming-more, naming-ends}
 use Rattle.list_words.proofs.kind_named.Goals as goal
 

@@ -1,4 +1,3 @@
-use Prim.Native.Nat.{◌-◌}
 use Rattle.merge_letters.specs.Table.{filled_more, filled-all}
 use borrow.Author.Rules.{rules}
 use native.Mathlib.Omega.{arith}

@@ -53,7 +53,7 @@ coded : (j : Joined-at_row) → Coded j.loop-i.table (event-of j.read_record-eve
 coded j =
     let row = sym j.at_row.ensures in
     elim j.if-at_row.branch [
-      then-at_row x ↦ of_row (row ∙ x.if-at_row.true) (x.code-is ∙ x.row_code-code.ensures)
+      | then-at_row x ↦ of_row (row ∙ x.if-at_row.true) (x.code-is ∙ x.row_code-code.ensures)
       | else-at_row+then-at_desk x ↦ of-desk (row ∙ x.if-at_row.false) (sym x.at_desk.ensures ∙ x.if-at_desk.true) (x.code-is ∙ x.desk_code.ensures)
       | else-at_row+else-at_desk x ↦ of-board (row ∙ x.if-at_row.false) (sym x.at_desk.ensures ∙ x.if-at_desk.false) (x.code-is ∙ x.board_code.ensures)
     ]

@@ -1,5 +1,5 @@
 use mathlib.Core.Path.{◌≡◌, refl, ap, ◌∙◌}
-use Prim.Native.Nat.{ℕ, ◌-◌}
+use Prim.Native.Nat.{ℕ}
 use Rattle.any_list.specs.Rows.{map_first, map_first-step}
 use Rattle.step_state.specs.Order.{past_controller}
 use Rattle.step_service.specs.Asks.{hears}

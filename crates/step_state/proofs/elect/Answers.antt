@@ -1,5 +1,5 @@
 use mathlib.Core.Path.{◌≡◌, sym, ap}
-use Prim.Native.Nat.{ℕ, ◌-◌, ◌<◌}
+use Prim.Native.Nat.{ℕ, ◌<◌}
 use lib.ListN.{length, get_or}
 use Rattle.rules_laws.specs.Elections.{leads-first, leads-anew, leads-on, leads-all}
 use Rattle.any_list.specs.Arrays.{column}

@@ -1,5 +1,4 @@
 use mathlib.Core.Path.{sym, ◌∙◌}
-use Rattle.step_streams.proofs.Waiting.{not-write}
 use Rattle.step_switch_row.proofs.Writing.{write-at, write-runs, no-write}
 use Rattle.step_switch_row.proofs.handle_write_code.Goals as goal
 

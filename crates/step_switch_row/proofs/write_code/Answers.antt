@@ -1,6 +1,5 @@
 use mathlib.Core.Path.{◌≡◌, refl, sym, ap, ◌∙◌}
 use mathlib.Core.Bool.{Bool, true, false, not, ◌||◌}
-use mathlib.Core.Logic.{⊎_elim}
 use lib.Dec.{ltb}
 use borrow.Author.Tests.{lt-ltb, le-ltb}
 use Rattle.rules.specs.Limits.{history_length}
@@ -19,7 +18,7 @@ judges c b e =
 left_over : (c : Joined-accepts) → (not (judged c.args.node (head_id c.args.stream) c.args.claims) || ltb c.args.writes history_length) ≡ true
 left_over c =
     elim c.if-accepts.branch [
-      then-accepts+else-writes-ge-HISTORY_LENGTH w ↦ simp (judges c.before _ w.if-accepts.true, lt-ltb c.args.writes 1024 w.if-writes-ge-HISTORY_LENGTH.false)
+      | then-accepts+else-writes-ge-HISTORY_LENGTH w ↦ simp (judges c.before _ w.if-accepts.true, lt-ltb c.args.writes 1024 w.if-writes-ge-HISTORY_LENGTH.false)
       | else-accepts w ↦ simp (judges c.before _ w.if-accepts.false)
     ]
 

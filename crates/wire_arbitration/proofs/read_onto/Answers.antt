@@ -1,5 +1,4 @@
 use mathlib.Core.Path.{◌≡◌, refl, sym, ap, ◌∙◌}
-use Prim.Native.Nat.{◌-◌}
 use native.Mathlib.Omega.{arith}
 use Rattle.wire_fields.specs.Places.{field_of}
 use Rattle.wire_fields.specs.Found.{found-field, no-field}

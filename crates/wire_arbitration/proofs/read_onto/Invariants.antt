@@ -1,7 +1,6 @@
 use mathlib.Core.Path.{◌≡◌}
 use Prim.Native.Nat.{◌-◌}
 use lib.ListN.{length}
-use Rattle.wire_fields.specs.Messages.{message}
 use Rattle.wire_fields.specs.Walking.{Walking}
 use Rattle.wire_arbitration.specs.Raw.{see}
 use Rattle.wire_arbitration.proofs.read_onto.Given as goal

@@ -1,5 +1,5 @@
 use mathlib.Core.Path.{sym, ap, ap₂, ◌∙◌}
-use Prim.Native.Nat.{ℕ, ◌-◌}
+use Prim.Native.Nat.{ℕ}
 use native.Mathlib.Omega.{arith}
 use Rattle.wire_fields.specs.Messages.{whole}
 use Rattle.wire_fields.specs.Found.{found-field, no-field}

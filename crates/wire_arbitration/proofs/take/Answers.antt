@@ -1,5 +1,4 @@
 use mathlib.Core.Path.{ap, ◌∙◌}
-use Prim.Native.Nat.{◌-◌}
 use Rattle.wire_arbitration.specs.Raw.{with_device}
 use Rattle.wire_arbitration.specs.Seeing.{sees-device, sees-fixed, sees-bytes}
 use Rattle.wire_arbitration.proofs.take.Goals as goal

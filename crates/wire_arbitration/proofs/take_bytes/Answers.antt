@@ -1,4 +1,3 @@
-use Prim.Native.Nat.{◌-◌}
 use borrow.Author.Tests.{ne_eqb}
 use Rattle.wire_arbitration.specs.Raw.{see_bytes}
 use Rattle.wire_arbitration.proofs.take_bytes.Goals as goal

@@ -1,4 +1,3 @@
-use Prim.Native.Nat.{◌-◌}
 use borrow.Author.Tests.{ne_eqb}
 use Rattle.wire_fields.specs.Fields.{content}
 use Rattle.wire_fields.proofs.read_content.Goals as goal

@@ -1,5 +1,5 @@
 use mathlib.Core.Path.{sym, ap, ◌∙◌}
-use Prim.Native.Nat.{ℕ, ◌+◌, ◌-◌}
+use Prim.Native.Nat.{ℕ, ◌+◌}
 use native.Mathlib.Omega.{arith}
 use Rattle.wire_fields.specs.Joining.{joining-starts, shift_fits, last_fits, next_fits, cut_off, too-large, last_byte, ends-here, goes_on}
 use Rattle.wire_fields.proofs.read_number.Goals as goal

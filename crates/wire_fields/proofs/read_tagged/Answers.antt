@@ -1,4 +1,3 @@
-use Prim.Native.Nat.{◌-◌}
 use lib.Bits.{and_mask}
 use borrow.Author.Tests.{lt-leb, le-leb}
 use Rattle.wire_fields.specs.Fields.{tagged}

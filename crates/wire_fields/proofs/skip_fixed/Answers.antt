@@ -1,5 +1,4 @@
 use mathlib.Core.Path.{◌∙◌}
-use Prim.Native.Nat.{◌-◌}
 use native.Mathlib.Omega.{arith}
 use Rattle.wire_fields.specs.Found.{fixed-field, part-short}
 use Rattle.wire_fields.specs.Numbers.{taken}

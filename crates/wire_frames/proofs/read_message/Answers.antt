@@ -1,5 +1,4 @@
 use mathlib.Core.Path.{◌∙◌}
-use Prim.Native.Nat.{◌-◌}
 use native.Mathlib.Omega.{arith}
 use Rattle.wire_fields.specs.Found.{found-field, no-field}
 use Rattle.wire_frames.specs.Streaming.{carrying-starts, carrying-ends, carrying-faults, carrying-on, carrying-breaks}

@@ -1,6 +1,4 @@
-use Prim.Native.Nat.{◌-◌}
 use native.Mathlib.Omega.{arith}
-use Rattle.wire_frames.specs.Frames.{refused}
 use Rattle.wire_frames.specs.Streaming.{takes-number, takes-below, takes-beyond, takes-other}
 use Rattle.wire_frames.proofs.Streaming.{takes-arbitration, takes-fault}
 use Rattle.wire_frames.proofs.take.Goals as goal

@@ -1,6 +1,4 @@
 use mathlib.Core.Path.{refl}
-use mathlib.Core.Bool.{true}
-use Prim.Native.Nat.{◌-◌}
 use native.Mathlib.Omega.{arith}
 use Rattle.rules.specs.Range.{each}
 use Rattle.any_list.specs.Tests.{tests}
