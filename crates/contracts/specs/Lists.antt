@@ -2,10 +2,11 @@
 use Rattle.std.specs.Prelude.{◌≡◌, refl, List, [], ◌∷◌, ◌++◌, ℕ, replicate}
 use Rattle.any_text.specs.Lines.{record_line, writes_line, write_line}
 use Rattle.run_text.specs.Transcript.{transcript}
-use Rattle.contracts.specs.Contract.{Gives}
+use Rattle.run.specs.Ran.{ran}
+use Rattle.contracts.specs.Contract.{Gives, Only, only}
 use Rattle.contracts.specs.Opened.{runs, prints}
 use Rattle.contracts.specs.Calls.{RunMay, TranscriptMay}
-use Rattle.contracts.specs.Only.{Puts, puts, only-run, only-transcript}
+use Rattle.contracts.specs.Only.{Puts, puts, only-transcript}
 
 -- A note byte; Join 1, Learn 2, Learn 1, Connect 1 twice, Send update 1, Handle update 1, Receive update 1, Send write 1, Handle write 1, Shutdown with node 1; first record at 1,
 -- 11 records, 2 nodes.
@@ -16,20 +17,13 @@ worked = 7 ∷ 1 ∷ 1 ∷ 3 ∷ 2 ∷ 3 ∷ 1 ∷ 8 ∷ 1 ∷ 8 ∷ 1 ∷ 4 ∷
 -- Connect is refused the second time with 4, Shutdown with 3. The one write is by node 1 in term 1, and its entry stands right behind the answers.
 pub run-worked : Gives RunMay (worked, replicate 4107 9) 257 ((0 ∷ 0 ∷ 0 ∷ 0 ∷ 4 ∷ 0 ∷ 0 ∷ 0 ∷ 0 ∷ 0 ∷ 3 ∷ []) ++ (1 ∷ 0 ∷ 1 ∷ 0 ∷ []) ++ replicate 4092 9)
 unfolding runs
-run-worked = only-run (worked, replicate 4107 9)
-
--- A byte of the buffer too few.
-pub run_short : Gives RunMay (worked, replicate 4106 9) 12 (replicate 4106 9)
-unfolding runs
-run_short = only-run (worked, replicate 4106 9)
+run-worked =
+    let only-run : Only RunMay (λ g. (ran g.0 g.1).returned) (λ g. (ran g.0 g.1).out) = only _ _ _ _ _ (λ κs a r e m. m) in
+    only-run (worked, replicate 4107 9)
 
 -- Twelve bytes, with 9 nodes.
-abbrev nine_nodes : List ℕ
+abbrev pub nine_nodes : List ℕ
 nine_nodes = 0 ∷ 0 ∷ 0 ∷ 0 ∷ 0 ∷ 0 ∷ 0 ∷ 0 ∷ 9 ∷ 0 ∷ 77 ∷ 65 ∷ []
-
-pub run-nine-nodes : (out : List ℕ) → Gives RunMay (nine_nodes, out) 10 out
-unfolding runs
-run-nine-nodes out = only-run (nine_nodes, out)
 
 -- What is printed for the first list, line by line. (`any_text/specs/Sample` has such lines in bytes.)
 abbrev printed : List ℕ

@@ -30,24 +30,20 @@ abbrev certain : List ℕ
 certain = line R.same []
 
 -- "doubt 9 3 80 11 1 11 4 84 12 0" and "differs 1 1 1 0 0"
-abbrev doubted : List ℕ
+abbrev pub doubted : List ℕ
 doubted = line doubt (9 ∷ 3 ∷ 80 ∷ 11 ∷ 1 ∷ 11 ∷ 4 ∷ 84 ∷ 12 ∷ 0 ∷ []) ++ line R.differs (1 ∷ 1 ∷ 1 ∷ 0 ∷ 0 ∷ [])
 
 is-certain : answer (log 2 2) ≡ certain
 unfolding logs
 is-certain = refl
 
-is-doubted : answer (log 3 4) ≡ doubted
+pub is-doubted : answer (log 3 4) ≡ doubted
 unfolding logs
 is-doubted = refl
 
 -- The switch has one log.
 pub answer-certain : (buf : List ℕ) → Puts AnswerMay (log 2 2, buf) certain buf
 answer-certain buf = puts AnswerMay (log 2 2, buf) buf is-certain (only-answer (log 2 2, buf))
-
--- The shutdown is in another log.
-pub answer-doubted : (buf : List ℕ) → Puts AnswerMay (log 3 4, buf) doubted buf
-answer-doubted buf = puts AnswerMay (log 3 4, buf) buf is-doubted (only-answer (log 3 4, buf))
 
 -- The second line has three numbers: "refused line 2".
 abbrev bad : List ℕ

@@ -5,8 +5,8 @@ use Rattle.wire_arbitration.specs.declared.Arbitration.{Arbitration}
 use Rattle.wire_text.specs.Printout as P
 use Rattle.contracts.specs.Contract.{Gives}
 use Rattle.contracts.specs.Opened.{messages}
-use Rattle.contracts.specs.Calls.{ReadMay, ReadIntoMay, PrintoutMay}
-use Rattle.contracts.specs.Only.{Puts, puts, only-read, only-read-into, only-printout}
+use Rattle.contracts.specs.Calls.{ReadMay, ReadIntoMay}
+use Rattle.contracts.specs.Only.{only-read, only-read-into}
 
 -- device_id 7, role { id 5 }, election_id { high 1 low 2 }, status { code -5 }
 abbrev pub worked : List ℕ
@@ -39,18 +39,15 @@ unfolding messages
 read-into-short = only-read-into (worked, replicate 39 9)
 
 -- The lines of the fields; the last is "status.code -5".
-abbrev printed : List ℕ
+abbrev pub printed : List ℕ
 printed =
     P.number_line P.device_word 7 ++ P.flag_line P.role_word true ++ P.number_line P.role_id_word 5
     ++ P.flag_line P.election_word true ++ P.number_line P.high_word 1 ++ P.number_line P.low_word 2
     ++ P.flag_line P.status_word true ++ P.code_word ++ (45 ∷ 53 ∷ 10 ∷ [])
 
-worked-printed : P.printout worked ≡ printed
+pub worked-printed : P.printout worked ≡ printed
 unfolding messages
 worked-printed = refl
-
-pub print-worked : (buf : List ℕ) → Puts PrintoutMay (worked, buf) printed buf
-print-worked buf = puts PrintoutMay (worked, buf) buf worked-printed (only-printout (worked, buf))
 
 -- A number in field 2 is not the device id: nothing is said.
 pub read-other-number : Gives ReadMay (16 ∷ 1 ∷ []) (refused 0) tt

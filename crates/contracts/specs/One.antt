@@ -1,7 +1,7 @@
 -- No second answer: of every function that the README offers, of the calls for C, and of the texts that the programs print. Assumes nothing.
 use Rattle.contracts.specs.Contract.{One, one}
-use Rattle.contracts.specs.Calls.{FreshMay, StepMay, OpenStreamsMay, InRangeMay, IndependentMay, RunMay, HostRunMay, TranscriptMay, WriteMay, WriteCallMay, HostWriteMay, ListFromMay, TextOfMay, CompareMay, SameMergeMay, HostSameMergeMay, ReportMay, AnswerMay, ReadMay, ReadIntoMay, HostReadArbitrationMay, PrintoutMay, ReadFrameMay, LooksStreamedMay, FrameIntoMay, HostReadFrameMay, ShownMay, EndedMay}
-use Rattle.contracts.specs.Only.{only-fresh, only_step, only-open-streams, only-in-range, only-independent, only-run, only-host-run, only-transcript, only-write, only-write-call, only-host-write, only-list-from, only-text-of, only-compare, only-same-merge, only-host-same-merge, only-report, only-answer, only-read, only-read-into, only-host-read-arbitration, only-printout, only-read-frame, only-looks-streamed, only-frame-into, only-host-read-frame, only-shown, only-ended}
+use Rattle.contracts.specs.Calls.{FreshMay, StepMay, OpenStreamsMay, InRangeMay, IndependentMay, HostRunMay, TranscriptMay, WriteMay, WriteCallMay, HostWriteMay, ListFromMay, TextOfMay, CompareMay, SameMergeMay, HostSameMergeMay, ReportMay, AnswerMay, ReadMay, ReadIntoMay, HostReadArbitrationMay, PrintoutMay, ReadFrameMay, LooksStreamedMay, FrameIntoMay, HostReadFrameMay, ShownMay, EndedMay}
+use Rattle.contracts.specs.Only.{only-fresh, only_step, only-open-streams, only-in-range, only-independent, only-host-run, only-transcript, only-write, only-write-call, only-host-write, only-list-from, only-text-of, only-compare, only-same-merge, only-host-same-merge, only-report, only-answer, only-read, only-read-into, only-host-read-arbitration, only-printout, only-read-frame, only-looks-streamed, only-frame-into, only-host-read-frame, only-shown, only-ended}
 
 pub one-fresh : One FreshMay
 one-fresh = one _ _ _ only-fresh
@@ -17,9 +17,6 @@ one-in-range = one _ _ _ only-in-range
 
 pub one-independent : One IndependentMay
 one-independent = one _ _ _ only-independent
-
-pub one-run : One RunMay
-one-run = one _ _ _ only-run
 
 pub one-host-run : One HostRunMay
 one-host-run = one _ _ _ only-host-run

@@ -59,9 +59,6 @@ only-independent = only _ _ _ _ _ (λ κs a r e m. (m, refl))
 
 -- ---- a list
 
-pub only-run : Only RunMay (λ g. (ran g.0 g.1).returned) (λ g. (ran g.0 g.1).out)
-only-run = only _ _ _ _ _ (λ κs a r e m. m)
-
 pub only-host-run : Only HostRunMay (λ g. (ran g.0 g.1).returned) (λ g. (ran g.0 g.1).out)
 only-host-run = only _ _ _ _ _ (λ κs a r e m. m)
 

@@ -24,7 +24,7 @@ use Rattle.run_lists.specs.EventList.{record_count}
 use Rattle.run.specs.Ran.{Ran, no_writes, whole_run, run_refusal, ran}
 use Rattle.contracts.specs.Opened.{states, runs}
 use Rattle.contracts.specs.Calls.{StepMay, OpenStreamsMay, RunMay}
-use Rattle.contracts.specs.Only.{only-open-streams, only-run}
+use Rattle.contracts.specs.Only.{only-open-streams}
 use Rattle.contracts.specs.Steps.{by-rules}
 
 -- ---- steppers
@@ -126,27 +126,11 @@ abbrev pub MakesUpWrites : Runner → Type 0
 MakesUpWrites f = (list : List ℕ) × (out : List ℕ) × (run_refusal list out ≡ 0) × ((f list out).returned ≢ no_writes + length (whole_run list).state.history)
 
 -- Connect twice, of one node.
-abbrev twice : List ℕ
+abbrev pub twice : List ℕ
 twice = 8 ∷ 1 ∷ 8 ∷ 1 ∷ 0 ∷ 0 ∷ 0 ∷ 0 ∷ 2 ∷ 0 ∷ 0 ∷ 0 ∷ 1 ∷ 0 ∷ 77 ∷ 65 ∷ []
 
-abbrev lent : List ℕ
+abbrev pub lent : List ℕ
 lent = replicate 4098 0
-
-module _ (f : Runner) (meets : Runs f) where
-  -- The second one is refused with 4.
-  second : get_or (f twice lent).out 1 0 ≡ 4
-  unfolding runs
-  second = ap (λ (l : List ℕ). get_or l 1 0) (only-run (twice, lent) (f twice lent).returned (f twice lent).out (meets twice lent)).1
-
-  pub not-zero-for-the-rest : ¬ ZeroForTheRest f
-  unfolding runs
-  not-zero-for-the-rest wrong =
-      let same : ◌≡◌ {A = ℕ} 4 0 = sym second ∙ wrong twice lent refl 1 (omega arith) (omega arith) in
-      omega arith
-
-  pub not-makes-up-writes : ¬ MakesUpWrites f
-  unfolding ran
-  not-makes-up-writes (list, out, runs, wrong) = wrong ((only-run (list, out) (f list out).returned (f list out).out (meets list out)).0 ∙ rw runs refl)
 
 -- ---- the open streams
 
