@@ -18,7 +18,7 @@ const TOO_LONG: u8 = 8;
 enum Next {
     Read(Frame),
     End,
-    Failed,
+    Failed(Output),
 }
 
 // Reads a frame into the buffer, its head first.
@@ -26,8 +26,9 @@ fn read_next(rt: &HostRuntime, space: &mut [u8]) -> Next
     requires { 5 ≤ length space.old }
 {
     let head = wire_frames::HEAD;
-    let Input::Whole(n) = files::read_input(rt, &mut space[..head]) else {
-        return Next::Failed;
+    let n = match files::read_input(rt, &mut space[..head]) {
+        Input::Whole(n) => n,
+        Input::Refused(output) => return Next::Failed(output),
     };
     if n == 0 {
         return Next::End;
@@ -37,8 +38,9 @@ fn read_next(rt: &HostRuntime, space: &mut [u8]) -> Next
         return Next::Read(wire_frames::refused(TOO_LONG));
     }
     let end = head + held;
-    let Input::Whole(more) = files::read_input(rt, &mut space[head..end]) else {
-        return Next::Failed;
+    let more = match files::read_input(rt, &mut space[head..end]) {
+        Input::Whole(more) => more,
+        Input::Refused(output) => return Next::Failed(output),
     };
     let all = n + more;
     Next::Read(wire_frames::read_frame(&space[..all]))
@@ -65,8 +67,8 @@ fn main(rt: HostRuntime) -> ExitCode {
     while number < 0xFFFF_FFFF_FFFF_FFFF {
         let next = read_next(&rt, space);
         match next {
-            Next::Failed => {
-                return ExitCode::SUCCESS;
+            Next::Failed(output) => {
+                return output.status();
             }
             Next::End => {
                 return print_end(&rt, number).status();

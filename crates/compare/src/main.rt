@@ -10,12 +10,14 @@ fn main(rt: HostRuntime) -> ExitCode {
     }
     // One byte more than the longest list, so that a longer one is seen.
     let mut first = [0u8; run_lists::LONGEST + 1];
-    let Input::Whole(n) = files::read_argument(&rt, 1, b"refused first file\n", &mut first) else {
-        return ExitCode::SUCCESS;
+    let n = match files::read_argument(&rt, 1, b"refused first file\n", &mut first) {
+        Input::Whole(n) => n,
+        Input::Refused(output) => return output.status(),
     };
     let mut second = [0u8; run_lists::LONGEST + 1];
-    let Input::Whole(m) = files::read_argument(&rt, 2, b"refused second file\n", &mut second) else {
-        return ExitCode::SUCCESS;
+    let m = match files::read_argument(&rt, 2, b"refused second file\n", &mut second) {
+        Input::Whole(m) => m,
+        Input::Refused(output) => return output.status(),
     };
     let mut text = [0u8; merge_text::LONGEST_REPORT];
     let length = merge_text::report(&first[..n], &second[..m], &mut text);

@@ -1,4 +1,4 @@
--- One list that tells wrong programs apart, and two that are refused: all that the contracts of `run` and `transcript` let be returned, left and printed. Assumes nothing.
+-- One list that tells wrong programs apart: all that the contracts of `run` and `transcript` let be returned, left and printed. Two that are refused are in proofs/Lists. Assumes nothing.
 use Rattle.std.specs.Prelude.{◌≡◌, refl, List, [], ◌∷◌, ◌++◌, ℕ, replicate}
 use Rattle.any_text.specs.Lines.{record_line, writes_line, write_line}
 use Rattle.run_text.specs.Transcript.{transcript}

@@ -1,4 +1,4 @@
--- No second answer: of every function that the README offers, of the calls for C, and of the texts that the programs print. Assumes nothing.
+-- No second answer: of every function that the README offers, of the calls for C, and of the texts that the programs print; of `run`, in proofs/One. Assumes nothing.
 use Rattle.contracts.specs.Contract.{One, one}
 use Rattle.contracts.specs.Calls.{FreshMay, StepMay, OpenStreamsMay, InRangeMay, IndependentMay, HostRunMay, TranscriptMay, WriteMay, WriteCallMay, HostWriteMay, ListFromMay, TextOfMay, CompareMay, SameMergeMay, HostSameMergeMay, ReportMay, AnswerMay, ReadMay, ReadIntoMay, HostReadArbitrationMay, PrintoutMay, ReadFrameMay, LooksStreamedMay, FrameIntoMay, HostReadFrameMay, ShownMay, EndedMay}
 use Rattle.contracts.specs.Only.{only-fresh, only_step, only-open-streams, only-in-range, only-independent, only-host-run, only-transcript, only-write, only-write-call, only-host-write, only-list-from, only-text-of, only-compare, only-same-merge, only-host-same-merge, only-report, only-answer, only-read, only-read-into, only-host-read-arbitration, only-printout, only-read-frame, only-looks-streamed, only-frame-into, only-host-read-frame, only-shown, only-ended}

@@ -1,4 +1,4 @@
--- The five wrong programs that the scope names. Each is shut out by a contract: no program that meets it is one of them. The right program is not shut out. Assumes nothing.
+-- The five wrong programs that the scope names. Each is shut out by a contract: no program that meets it is one of them; of runners, in proofs/Wrong. The right program is not shut out. Assumes nothing.
 use Rattle.std.proofs.Math.Path.{◌≡◌, refl, sym, ap}
 use Rattle.std.proofs.Common.{◌∙◌}
 use Rattle.std.specs.Prelude.{◌≢◌, ℕ, ◌+◌, ◌≤◌, ◌<◌, T, length, replicate}

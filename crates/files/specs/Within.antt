@@ -10,7 +10,11 @@ IsPrefixLen n bytes = (n ≤ length bytes) × (n ≡ length (take n bytes))
 
 abbrev pub Within : Input → List ℕ → Type 0
 Within (Whole n) bytes = IsPrefixLen n bytes
-Within Refused bytes = Unit {0}
+Within (Refused output) bytes = Unit {0}
+
+abbrev pub IsRefused : Input → Type 0
+IsRefused (Whole n) = ⊥
+IsRefused (Refused output) = Unit {0}
 
 -- What a whole input counts lies within the buffer.
 pub counted : (input : Input) (n : ℕ) (bytes : List ℕ) → Within input bytes → input ≡ Whole n → IsPrefixLen n bytes

@@ -6,7 +6,7 @@
 ghost use Rattle.std.specs.Prelude.{◌≡◌, ◌↔◌, ◌<◌, length, take, IfOk, OnOk, IsTrue};
 ghost use Rattle.files.specs.declared.Output.TheVariants.{Whole};
 ghost use Rattle.std.specs.Io.KnownBytes.{Appends, Consumes, IsAtEnd};
-ghost use Rattle.files.specs.Within.{IsPrefixLen, Within};
+ghost use Rattle.files.specs.Within.{IsPrefixLen, IsRefused, Within};
 
 use std::env::{Env, FillError};
 use std::fmt::InlineText;
@@ -19,11 +19,11 @@ use std::{fs, io};
 // An input that signals interrupt more often than this counts as one that failed.
 const MOST_INTERRUPTIONS: usize = 1000;
 
-// What reading came to: so many bytes at the buffer's start, fewer than fill it only where the input ended there; or a refusal that has been printed.
+// What reading came to: so many bytes at the buffer's start, fewer than fill it only where the input ended there; or a refusal, and what printing it came to.
 #[derive(Clone, Copy)]
 pub enum Input {
     Whole(usize),
-    Refused,
+    Refused(Output),
 }
 
 // What printing came to: all was taken; or not all, which has been said on standard error; or it went where nobody reads any more, which has been said too.
@@ -108,9 +108,11 @@ fn words(reason: &str) -> &str {
 }
 
 // What failed and why, on standard error, and the line that is the answer.
-fn refuse(rt: &HostRuntime, name: &[u8], line: &[u8], error: Error) {
+fn refuse(rt: &HostRuntime, name: &[u8], line: &[u8], error: Error) -> Input
+    ensures { IsRefused result }
+{
     say(rt, name, error);
-    print(rt, line);
+    Input::Refused(print(rt, line))
 }
 
 // Fills the buffer as far as the input goes. A read that a signal interrupts is tried again.
@@ -151,10 +153,7 @@ fn read_from<R: Read>(
 {
     match fill(reader, buf) {
         Ok(n) => Input::Whole(n),
-        Err(error) => {
-            refuse(rt, name, line, error);
-            Input::Refused
-        }
+        Err(error) => refuse(rt, name, line, error),
     }
 }
 
@@ -171,11 +170,11 @@ pub fn read_source(rt: &HostRuntime, buf: &mut [u8]) -> Input
     ensures { Within result buf.new }
 {
     let mut stdin = rt.stdin();
-    let Input::Whole(n) = read_from(rt, &mut stdin, b"standard input", b"", buf) else {
+    let input = read_from(rt, &mut stdin, b"standard input", b"", buf);
+    if let Input::Refused(_) = input {
         warn(rt, b"refused file\n");
-        return Input::Refused;
-    };
-    Input::Whole(n)
+    }
+    input
 }
 
 // Whether the program was started with so many arguments, its own name among them.
@@ -209,12 +208,10 @@ pub fn read_argument(rt: &HostRuntime, i: usize, line: &[u8], buf: &mut [u8]) ->
     let length = match rt.arg(i, &mut room) {
         Ok(length) => length,
         Err(FillError::TooLong) => {
-            refuse(rt, b"argument", line, Error::from_raw_os_error(36));
-            return Input::Refused;
+            return refuse(rt, b"argument", line, Error::from_raw_os_error(36));
         }
         Err(FillError::NotPresent) => {
-            refuse(rt, b"argument", line, Error::from_raw_os_error(22));
-            return Input::Refused;
+            return refuse(rt, b"argument", line, Error::from_raw_os_error(22));
         }
     };
     let name = &room[..length];
@@ -223,9 +220,6 @@ pub fn read_argument(rt: &HostRuntime, i: usize, line: &[u8], buf: &mut [u8]) ->
             let mut file = file;
             read_from(rt, &mut file, name, line, buf)
         }
-        Err(error) => {
-            refuse(rt, name, line, error);
-            Input::Refused
-        }
+        Err(error) => refuse(rt, name, line, error),
     }
 }

@@ -17,8 +17,9 @@ fn main(rt: HostRuntime) -> ExitCode {
         return files::print(&rt, b"usage: merges FILE\n").status();
     }
     let mut log = room();
-    let Input::Whole(n) = files::read_argument(&rt, 1, b"refused file\n", &mut log) else {
-        return ExitCode::SUCCESS;
+    let n = match files::read_argument(&rt, 1, b"refused file\n", &mut log) {
+        Input::Whole(n) => n,
+        Input::Refused(output) => return output.status(),
     };
     if LONG < n {
         files::warn(&rt, b"merges: comparing the records\n");

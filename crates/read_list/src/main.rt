@@ -11,8 +11,9 @@ fn room() -> [u8; list_text::LONGEST_TEXT] {
 fn main(rt: HostRuntime) -> ExitCode {
     // One byte more than the longest list, so that a longer one is seen.
     let mut list = [0u8; run_lists::LONGEST + 1];
-    let Input::Whole(n) = files::read_source(&rt, &mut list) else {
-        return ExitCode::SUCCESS;
+    let n = match files::read_source(&rt, &mut list) {
+        Input::Whole(n) => n,
+        Input::Refused(output) => return output.status(),
     };
     let mut text = room();
     let mut line = [0u8; list_text::LONGEST_LINE];

@@ -7,8 +7,9 @@ use std::process::ExitCode;
 fn main(rt: HostRuntime) -> ExitCode {
     // One byte more than the longest list, so that a longer one is seen.
     let mut list = [0u8; run_lists::LONGEST + 1];
-    let Input::Whole(n) = files::read_input(&rt, &mut list) else {
-        return ExitCode::SUCCESS;
+    let n = match files::read_input(&rt, &mut list) {
+        Input::Whole(n) => n,
+        Input::Refused(output) => return output.status(),
     };
     let mut text = [0u8; run_text::LONGEST_TEXT];
     let length = run_text::transcript(&list[..n], &mut text);

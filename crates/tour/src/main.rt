@@ -128,8 +128,9 @@ fn play(rt: &HostRuntime, script: &[u8]) -> Output {
 
 fn main(rt: HostRuntime) -> ExitCode {
     let mut script = [0u8; 4096];
-    let Input::Whole(n) = files::read_input(&rt, &mut script) else {
-        return ExitCode::SUCCESS;
+    let n = match files::read_input(&rt, &mut script) {
+        Input::Whole(n) => n,
+        Input::Refused(output) => return output.status(),
     };
     play(&rt, &script[..n]).status()
 }

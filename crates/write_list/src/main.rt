@@ -11,8 +11,9 @@ fn room() -> [u8; list_source::LONGEST + 1] {
 
 fn main(rt: HostRuntime) -> ExitCode {
     let mut text = room();
-    let Input::Whole(n) = files::read_source(&rt, &mut text) else {
-        return ExitCode::SUCCESS;
+    let n = match files::read_source(&rt, &mut text) {
+        Input::Whole(n) => n,
+        Input::Refused(output) => return output.status(),
     };
     let mut list = [0u8; run_lists::LONGEST];
     let mut line = [0u8; list_source::LONGEST_LINE];
