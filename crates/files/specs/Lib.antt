@@ -1,2 +1,4 @@
+-- Definitions: Status.
 -- Laws: Within.
 pub mod Within
+pub mod Status

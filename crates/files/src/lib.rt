@@ -6,6 +6,8 @@
 ghost use Rattle.std.specs.Prelude.{◌≡◌, ◌↔◌, ◌<◌, length, take, IfOk, OnOk, IsTrue};
 ghost use Rattle.files.specs.declared.Output.TheVariants.{Whole};
 ghost use Rattle.std.specs.Io.KnownBytes.{Appends, Consumes, IsAtEnd};
+ghost use Rattle.std.specs.Process.{exit_status};
+ghost use Rattle.files.specs.Status.{status_of};
 ghost use Rattle.files.specs.Within.{IsPrefixLen, IsRefused, Within};
 
 use std::env::{Env, FillError};
@@ -48,7 +50,9 @@ impl Output {
     }
 
     // The status that a program ends with.
-    pub fn status(self) -> ExitCode {
+    pub fn status(self) -> ExitCode
+        ensures { exit_status result ≡ status_of self }
+    {
         match self {
             Output::Unread => ExitCode::from(UNREAD),
             _ => ExitCode::SUCCESS,
