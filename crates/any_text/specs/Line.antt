@@ -10,6 +10,10 @@ spaced (n ∷ ns) = (blank ∷ []) ++ decimal n ++ spaced ns
 unfoldable pub line : List ℕ → List ℕ → List ℕ
 line word ns = word ++ spaced ns ++ (newline ∷ [])
 
+-- A line that begins with a number in place of a word.
+unfoldable pub row : ℕ → List ℕ → List ℕ
+row n ns = decimal n ++ (spaced ns ++ (newline ∷ []))
+
 -- The first n of the lines f 0, f 1, f 2 and so on.
 unfoldable pub lines : (ℕ → List ℕ) → ℕ → List ℕ
 lines f zero = []

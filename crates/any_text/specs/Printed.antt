@@ -1,21 +1,33 @@
 -- What a program prints that has an output of its own: the output, or a line that says why there is none.
-use Rattle.std.specs.Prelude.{List, [], ℕ, ◌≤◌, length}
-use Rattle.any_text.specs.declared.Printed.{Printed}
+use Rattle.std.specs.Prelude.{◌≡◌, List, [], ℕ, ◌≤◌, length, Result, Ok, Err}
 use Rattle.any_text.specs.Put.{Put}
 
-pub record Output : Type 0 where
-  pub out : List ℕ
-  pub refusal : List ℕ
+pub data Output : Type 0 where
+  printing : List ℕ → Output
+  refusing : List ℕ → Output
 
-abbrev pub printing : List ℕ → Output
-printing out = record { out = out; refusal = [] }
+abbrev pub out_of : Output → List ℕ
+out_of (printing out) = out
+out_of (refusing line) = []
 
-abbrev pub refusing : List ℕ → Output
-refusing line = record { out = []; refusal = line }
+abbrev pub refusal_of : Output → List ℕ
+refusal_of (printing out) = []
+refusal_of (refusing line) = line
 
--- The output stands at the front of one buffer, the line at the front of the other, and all else in both is as before.
-pub record Prints (o : Output) (out line out' line' : List ℕ) (r : Printed) : Type 0 where
-  pub output : Put out 0 o.out out' r.out
-  pub refusal : Put line 0 o.refusal line' r.line
-  pub output-fits : r.out ≤ length out'
-  pub refusal-fits : r.line ≤ length line'
+abbrev pub IsPrinting : Output → Type 0
+IsPrinting (printing out) = Unit {0}
+IsPrinting (refusing line) = ⊥
+
+abbrev pub IsRefusing : Output → Type 0
+IsRefusing (printing out) = ⊥
+IsRefusing (refusing line) = Unit {0}
+
+-- The bytes stand at the front of a buffer, where they find room, and all else in it is as before.
+pub record Fronts (bytes before after : List ℕ) (n : ℕ) : Type 0 where
+  pub put : Put before 0 bytes after n
+  pub fits : n ≤ length after
+
+-- The output stands at the front of one buffer, or the line at the front of the other, and its length is told. The other buffer is as before.
+abbrev pub Prints : Output → List ℕ → List ℕ → List ℕ → List ℕ → Result ℕ ℕ → Type 0
+Prints o out line out' line' (Ok n) = IsPrinting o × Fronts (out_of o) out out' n × (line' ≡ line)
+Prints o out line out' line' (Err n) = IsRefusing o × Fronts (refusal_of o) line line' n × (out' ≡ out)

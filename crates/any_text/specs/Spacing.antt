@@ -1,16 +1,16 @@
 -- Numbers put one after another, and how long a line is. Assumes nothing.
 use Rattle.std.specs.Prelude.{◌≡◌, refl, ℕ, suc, ◌+◌, ◌*◌, ◌≤◌, ◌<◌, length, get_or, take, drop}
-use Rattle.std.proofs.Common.{sym, ◌∙◌, add-one, arith, take-append-drop, take_all}
+use Rattle.std.proofs.Common.{sym, ◌∙◌, add-one, arith, take-append-drop}
 use Rattle.std.proofs.Math.Path.{ap}
 use mathlib.Core.List.{List, [], ◌∷◌, ◌++◌, append_assoc, append-nil}
 use Rattle.std.proofs.Math.ListN.{length-append}
 use Rattle.std.proofs.Math.Seq.{take-suc}
 use Rattle.any_text.specs.Decimal.{decimal}
 use Rattle.any_text.specs.Digits.{width}
-use Rattle.any_text.specs.Lines.{blank}
+use Rattle.any_text.specs.Lines.{blank, newline, record_line, writes_line, write_line, refused_line}
 use Rattle.any_text.specs.Put.{Room, Put}
 use Rattle.any_text.specs.Puts.{put-none, put_then, room-first, room-then}
-use Rattle.any_text.specs.Line.{spaced, line}
+use Rattle.any_text.specs.Line.{spaced, line, row}
 
 spaced-append : (a b : List ℕ) → spaced (a ++ b) ≡ spaced a ++ spaced b
 unfolding spaced
@@ -47,8 +47,29 @@ module _ (ns : List ℕ) where
     pub room-number : {l m k : List ℕ} {at a b : ℕ} → Room l at (spaced ns) → Put l at (spaced (take i ns)) m a → Put m a (blank ∷ []) k b → Room k b (decimal (get_or ns i 0))
     room-number r p q = room-then q (room-left r p)
 
-  pub spaced-all : {l m : List ℕ} {at a : ℕ} (i : ℕ) → length ns ≤ i → Put l at (spaced (take i ns)) m a → Put l at (spaced ns) m a
-  spaced-all i h p = rw (take_all i ns h) at p
+-- ---- a line by its parts, and the lines of the output among these
+
+pub line-parts : (word ns : List ℕ) → line word ns ≡ word ++ (spaced ns ++ (newline ∷ []))
+unfolding line
+line-parts word ns = append_assoc word (spaced ns) (newline ∷ [])
+
+pub record-row : (place kind node answer : ℕ) → record_line place kind node answer ≡ row place (kind ∷ node ∷ answer ∷ [])
+unfolding record_line row spaced decimal
+record-row place kind node answer = simp (append_assoc, append-nil) refl
+
+pub write-row : (node term : ℕ) → write_line node term ≡ row node (term ∷ [])
+unfolding write_line row spaced
+write-row node term = simp append_assoc refl
+
+-- "writes"
+pub writes-parts : (n : ℕ) → writes_line n ≡ line (119 ∷ 114 ∷ 105 ∷ 116 ∷ 101 ∷ 115 ∷ []) (n ∷ [])
+unfolding writes_line line spaced
+writes-parts n = simp append_assoc refl
+
+-- "refused"
+pub refused-parts : (n : ℕ) → refused_line n ≡ line (114 ∷ 101 ∷ 102 ∷ 117 ∷ 115 ∷ 101 ∷ 100 ∷ []) (n ∷ [])
+unfolding refused_line line spaced
+refused-parts n = simp append_assoc refl
 
 -- ---- how long a line is, of numbers that fit 64 bits
 

@@ -1,7 +1,8 @@
 -- Believed: Text.
--- Laws: Words, Same, Lines, Joined, Numbers.
+-- Laws: Words, Pieces, Same, Lines, Joined, Numbers.
 pub mod Text
 pub mod Words
+pub mod Pieces
 pub mod Same
 pub mod Lines
 pub mod Joined

@@ -1,5 +1,5 @@
 -- A word read digit by digit. Assumes nothing.
-use Rattle.std.specs.Prelude.{◌≡◌, refl, Bool, ◌&&◌, ℕ, suc, ◌+◌, ◌*◌, ◌-◌, ◌^◌, ◌≤◌, ◌<◌, leb, get_or}
+use Rattle.std.specs.Prelude.{◌≡◌, refl, Bool, ◌&&◌, Some, None, ℕ, suc, ◌+◌, ◌*◌, ◌-◌, ◌^◌, ◌≤◌, ◌<◌, leb, get_or}
 use Rattle.std.proofs.Math.Path.{sym, ap}
 use Rattle.std.proofs.Common.{◌∙◌, true≢false, add-one, drop-cons, le-leb, leb-true}
 use Rattle.std.proofs.Math.Bool.{true, false, and-false}
@@ -11,7 +11,6 @@ use Rattle.std.proofs.Math.Seq.{drop-length}
 use Rattle.std.proofs.lemmas.Bool.{lt-leb}
 use Rattle.rules.specs.Range.{all}
 use Rattle.any_text.specs.Decimal.{said_after}
-use Rattle.any_words.specs.declared.Number.TheVariants.{Value, Bad}
 use Rattle.any_words.specs.Text.{is_digit, number_of}
 
 pub first-true : (a b : Bool) → a && b ≡ true → a ≡ true
@@ -24,7 +23,7 @@ both_true false b e = absurd (true≢false (sym e))
 
 -- ---- a word
 
-pub too_long : (word : List ℕ) → 19 < length word → Bad ≡ number_of word
+pub too_long : (word : List ℕ) → 19 < length word → None ≡ number_of word
 unfolding number_of
 too_long word h = rw (lt-leb (length word) 19 h)
 
@@ -40,7 +39,7 @@ pub said-none : (word : List ℕ) → length word ≤ 19 → Said word 0 0
 said-none word h = record { few = h; low = omega arith; small = omega arith; said = refl; digits = refl }
 
 module _ {word : List ℕ} {value i : ℕ} (s : Said word value i) where
-  pub said_all : length word ≤ i → Value value ≡ number_of word
+  pub said_all : length word ≤ i → Some value ≡ number_of word
   unfolding number_of all
   said_all h =
       let low = s.low in
@@ -54,7 +53,7 @@ module _ {word : List ℕ} {value i : ℕ} (s : Said word value i) where
     here : drop i word ≡ get_or word i 0 ∷ drop (i + 1) word
     here = rw (add-one i) (drop-cons word i 0 h)
 
-    pub said-bad : is_digit (get_or word i 0) ≡ false → Bad ≡ number_of word
+    pub said-bad : is_digit (get_or word i 0) ≡ false → None ≡ number_of word
     unfolding number_of all
     said-bad e =
         let d : all is_digit word ≡ false = sym s.digits ∙ ap (all is_digit) here ∙ ap (λ (x : Bool). x && all is_digit (drop (i + 1) word)) e in

@@ -1,9 +1,7 @@
 -- The lines of a text, the words of a line, and the numbers that words say.
-use Rattle.std.specs.Prelude.{Bool, true, false, cond, ◌&&◌, ◌||◌, List, [], ◌∷◌, ℕ, eqb, leb, length}
+use Rattle.std.specs.Prelude.{Bool, true, false, cond, ◌&&◌, ◌||◌, List, [], ◌∷◌, Option, Some, None, ℕ, eqb, leb, length}
 use Rattle.rules.specs.Range.{all}
 use Rattle.any_text.specs.Decimal.{said_after}
-use Rattle.any_words.specs.declared.Number.{Number}
-use Rattle.any_words.specs.declared.Number.TheVariants.{Value, Bad}
 
 -- ---- bytes
 
@@ -51,5 +49,5 @@ same (a ∷ v) (b ∷ w) = eqb a b && same v w
 -- ---- numbers
 
 -- A word of at most 19 digits.
-unfoldable pub number_of : List ℕ → Number
-number_of w = cond (leb (length w) 19 && all is_digit w) (Value (said_after 0 w)) Bad
+unfoldable pub number_of : List ℕ → Option ℕ
+number_of w = cond (leb (length w) 19 && all is_digit w) (Some (said_after 0 w)) None

@@ -3,43 +3,27 @@
 
 ghost use Rattle.std.specs.Prelude.{◌≡◌, ◌≤◌, eqb, length, get_or};
 ghost use Rattle.any_search.specs.Seek.{Sought};
-ghost use Rattle.any_words.specs.Text.{is_blank, is_digit, same, number_of};
+ghost use Rattle.any_words.specs.Text.{is_blank, same, number_of};
 ghost use Rattle.any_words.specs.Words.{blank_is};
-
-// A word of a line.
-#[derive(Clone, Copy)]
-pub enum Number {
-    Value(u64),
-    Bad,
-}
 
 // ---- bytes
 
-fn is_blank(byte: u8) -> bool
+// A space, a tab or a carriage return.
+pub fn is_blank(byte: u8) -> bool
     ensures { result ≡ is_blank byte }
 {
     (byte == b' ') | (byte == b'\t') | (byte == b'\r')
 }
 
-fn is_digit(byte: u8) -> bool
-    ensures { result ≡ is_digit byte }
-{
-    (b'0' <= byte) & (byte <= b'9')
-}
-
-// The next place of a byte, or the end.
+// The next place of a byte, or the end. No Option, here and below: docs/DECISIONS.md names both functions, and their clauses say the end.
 pub fn next_byte(text: &[u8], start: usize, byte: u8) -> usize
     requires { start ≤ length text.now }
     ensures { Sought (λ k. eqb (get_or text.now k 0) byte) start (length text.now) result }
 {
-    let mut i = start;
-    while i < text.len() {
-        if text[i] == byte {
-            return i;
-        }
-        i += 1;
+    match text[start..].iter().position(|other| *other == byte) {
+        Some(steps) => start + steps,
+        None => text.len(),
     }
-    i
 }
 
 // The next byte that is blank, or that is not, or the end.
@@ -47,50 +31,37 @@ pub fn next_where(line: &[u8], start: usize, blank: bool) -> usize
     requires { start ≤ length line.now }
     ensures { Sought (blank_is blank line.now) start (length line.now) result }
 {
-    let mut i = start;
-    while i < line.len() {
-        if is_blank(line[i]) == blank {
-            return i;
-        }
-        i += 1;
+    match line[start..]
+        .iter()
+        .position(|byte| is_blank(*byte) == blank)
+    {
+        Some(steps) => start + steps,
+        None => line.len(),
     }
-    i
 }
 
 // Whether two words are the same.
 pub fn same(word: &[u8], other: &[u8]) -> bool
     ensures { result ≡ same word.now other.now }
 {
-    if word.len() != other.len() {
-        return false;
-    }
-    let mut i: usize = 0;
-    while i < word.len() {
-        if word[i] != other[i] {
-            return false;
-        }
-        i += 1;
-    }
-    true
+    word == other
 }
 
 // ---- numbers
 
-pub fn read_number(word: &[u8]) -> Number
+// A word of at most 19 digits says a number, which fits.
+pub fn read_number(word: &[u8]) -> Option<u64>
     ensures { result ≡ number_of word.now }
 {
     if 19 < word.len() {
-        return Number::Bad;
+        return None;
     }
     let mut value: u64 = 0;
-    let mut i: usize = 0;
-    while i < word.len() {
-        let byte = word[i];
-        if !is_digit(byte) {
-            return Number::Bad;
+    for byte in word {
+        if !byte.is_ascii_digit() {
+            return None;
         }
-        value = 10 * value + (byte - b'0') as u64;
-        i += 1;
+        value = 10 * value + u64::from(*byte - b'0');
     }
-    Number::Value(value)
+    Some(value)
 }

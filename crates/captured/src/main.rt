@@ -3,88 +3,69 @@
 
 ghost use Rattle.std.specs.Prelude.{◌≤◌, length};
 
-use files::{Input, Output};
+use files::Stop;
 use std::process::ExitCode;
-use wire_frames::Frame;
+use wire_frames::{Frame, Refusal};
 
 // A head, and the longest message that a frame may hold.
 const ROOM: usize = wire_frames::HEAD + wire_text::LONGEST;
 
-// A frame that holds more.
+// Of a frame that holds more.
 const TOO_LONG: u8 = 8;
 
-// What comes next: a frame, read or refused; the end; or a failed read, which has been told.
-#[derive(Clone, Copy)]
-enum Next {
-    Read(Frame),
-    End,
-    Failed(Output),
-}
-
-// Reads a frame into the buffer, its head first.
-fn read_next(rt: &HostRuntime, space: &mut [u8]) -> Next
+// Reads a frame into the buffer, its head first. None at the end of the input.
+fn read_next(rt: &HostRuntime, space: &mut [u8]) -> Result<Option<Result<Frame, Refusal>>, Stop>
     requires { 5 ≤ length space.old }
 {
     let head = wire_frames::HEAD;
-    let n = match files::read_input(rt, &mut space[..head]) {
-        Input::Whole(n) => n,
-        Input::Refused(output) => return Next::Failed(output),
-    };
+    let n = files::read_input(rt, &mut space[..head])?;
     if n == 0 {
-        return Next::End;
+        return Ok(None);
     }
     let held = wire_frames::held_length(&space[..n]);
     if space.len() - head < held {
-        return Next::Read(wire_frames::refused(TOO_LONG));
+        return Ok(Some(Err(Refusal::Reader(TOO_LONG))));
     }
     let end = head + held;
-    let more = match files::read_input(rt, &mut space[head..end]) {
-        Input::Whole(more) => more,
-        Input::Refused(output) => return Next::Failed(output),
-    };
-    let all = n + more;
-    Next::Read(wire_frames::read_frame(&space[..all]))
+    let more = files::read_input(rt, &mut space[head..end])?;
+    Ok(Some(wire_frames::read_frame(&space[..n + more])))
 }
 
 // Prints the text of a frame.
-fn print_frame(rt: &HostRuntime, number: u64, offset: u64, frame: Frame) -> Output {
+fn print_frame(
+    rt: &HostRuntime,
+    number: u64,
+    offset: u64,
+    frame: Result<Frame, Refusal>,
+) -> Result<(), Stop> {
     let mut text = [0u8; wire_frames_text::LONGEST_TEXT];
     let length = wire_frames_text::shown(number, offset, frame, &mut text);
     files::print(rt, &text[..length])
 }
 
-fn print_end(rt: &HostRuntime, number: u64) -> Output {
+fn print_end(rt: &HostRuntime, number: u64) -> Result<(), Stop> {
     let mut text = [0u8; wire_frames_text::LONGEST_TEXT];
     let length = wire_frames_text::ended(number, &mut text);
     files::print(rt, &text[..length])
 }
 
-fn main(rt: HostRuntime) -> ExitCode {
+fn run(rt: &HostRuntime) -> Result<(), Stop> {
     let mut room = [0u8; ROOM];
     let space: &mut [u8] = &mut room;
-    let mut number: u64 = 0;
     let mut offset: u64 = 0;
-    while number < 0xFFFF_FFFF_FFFF_FFFF {
-        let next = read_next(&rt, space);
-        match next {
-            Next::Failed(output) => {
-                return output.status();
-            }
-            Next::End => {
-                return print_end(&rt, number).status();
-            }
-            Next::Read(frame) => {
-                number += 1;
-                let output = print_frame(&rt, number, offset, frame);
-                if !output.is_whole() {
-                    return output.status();
-                }
-                if frame.code != wire_fields::READ {
-                    return ExitCode::SUCCESS;
-                }
-                offset = offset.wrapping_add(frame.size as u64);
-            }
-        }
+    for before in 0..u64::MAX {
+        let Some(frame) = read_next(rt, space)? else {
+            return print_end(rt, before);
+        };
+        print_frame(rt, before + 1, offset, frame)?;
+        let Ok(frame) = frame else {
+            break;
+        };
+        offset = offset.wrapping_add(frame.size as u64);
     }
-    ExitCode::SUCCESS
+    Ok(())
+}
+
+fn main(rt: HostRuntime) -> ExitCode {
+    files::status(run(&rt))
 }

@@ -1,13 +1,15 @@
 -- The calls of the public functions: what each is given, and what it may return and leave by its contract. Where nothing is lent by `&mut`, nothing is left: `tt`.
-use Rattle.std.specs.Prelude.{Bool, List, ℕ}
+use Rattle.std.specs.Prelude.{Bool, List, ℕ, Result}
 use Rattle.step_state.specs.declared.State.{State}
 use Rattle.step.specs.declared.Stepped.{Stepped}
-use Rattle.step.specs.declared.Report.{Report}
+use Rattle.step.specs.declared.Open.{Open}
+use Rattle.step_parts.specs.declared.Refusal.{Refusal}
 use Rattle.wire_arbitration.specs.declared.Arbitration.{Arbitration}
+use Rattle.wire_fields.specs.declared.Fault.{Fault}
+use Rattle.wire_frames.specs.declared.Refusal as Frames
 use Rattle.wire_frames.specs.declared.Frame.{Frame}
-use Rattle.merge_compare.specs.declared.Finding.{Finding}
-use Rattle.list_write.specs.declared.Wrote.{Wrote}
-use Rattle.any_text.specs.declared.Printed.{Printed}
+use Rattle.merge_compare.specs.declared.Verdict.{Verdict}
+use Rattle.merge_compare.specs.declared.Refused.{Refused}
 use Rattle.step.proofs.fresh.Reads as Fresh
 use Rattle.step.proofs.step.Reads as Step
 use Rattle.step.proofs.open_streams.Reads as OpenStreams
@@ -49,7 +51,7 @@ abbrev pub StepMay : State × ℕ × ℕ → Stepped → Unit {0} → Type 0
 StepMay = May Step.Post (λ κs a. (a.0, a.1.0, a.1.1.0)) (λ κs e. tt)
 
 -- open_streams(state)
-abbrev pub OpenStreamsMay : State → Report → Unit {0} → Type 0
+abbrev pub OpenStreamsMay : State → Result Open Refusal → Unit {0} → Type 0
 OpenStreamsMay = May OpenStreams.Post (λ κs a. a.0) (λ κs e. tt)
 
 -- in_range(state)
@@ -74,7 +76,7 @@ abbrev pub TranscriptMay : List ℕ × List ℕ → ℕ → List ℕ → Type 0
 TranscriptMay = May Transcript.Post (λ κs a. (a.0.now, a.1.0.now)) (λ κs e. e.1.0.now)
 
 -- write(nodes, steps, out)
-abbrev pub WriteMay : ℕ × List ℕ × List ℕ → Wrote → List ℕ → Type 0
+abbrev pub WriteMay : ℕ × List ℕ × List ℕ → Result ℕ Refusal → List ℕ → Type 0
 WriteMay = May Write.Post (λ κs a. (a.0, a.1.0.now, a.1.1.0.now)) (λ κs e. e.1.1.0.now)
 
 -- write_call(nodes, steps, out)
@@ -85,17 +87,17 @@ abbrev pub HostWriteMay : ℕ × List ℕ × List ℕ → ℕ → List ℕ → T
 HostWriteMay = May HostWrite.Post (λ κs a. (a.0, a.1.0.now, a.1.1.0.now)) (λ κs e. e.1.1.0.now)
 
 -- list_from(text, out, line): then the bytes of both buffers
-abbrev pub ListFromMay : List ℕ × List ℕ × List ℕ → Printed → List ℕ × List ℕ → Type 0
+abbrev pub ListFromMay : List ℕ × List ℕ × List ℕ → Result ℕ ℕ → List ℕ × List ℕ → Type 0
 ListFromMay = May ListFrom.Post (λ κs a. (a.0.now, a.1.0.now, a.1.1.0.now)) (λ κs e. (e.1.0.now, e.1.1.0.now))
 
 -- text_of(list, text, line)
-abbrev pub TextOfMay : List ℕ × List ℕ × List ℕ → Printed → List ℕ × List ℕ → Type 0
+abbrev pub TextOfMay : List ℕ × List ℕ × List ℕ → Result ℕ ℕ → List ℕ × List ℕ → Type 0
 TextOfMay = May TextOf.Post (λ κs a. (a.0.now, a.1.0.now, a.1.1.0.now)) (λ κs e. (e.1.0.now, e.1.1.0.now))
 
 -- ---- two merges, and a log
 
 -- compare(first, second)
-abbrev pub CompareMay : List ℕ × List ℕ → Finding → Unit {0} → Type 0
+abbrev pub CompareMay : List ℕ × List ℕ → Result Verdict Refused → Unit {0} → Type 0
 CompareMay = May Compare.Post (λ κs a. (a.0.now, a.1.0.now)) (λ κs e. tt)
 
 -- same_merge(first, second, places)
@@ -116,7 +118,7 @@ AnswerMay = May Answer.Post (λ κs a. (a.0.now, a.1.0.now)) (λ κs e. e.1.0.no
 -- ---- an arbitration message
 
 -- read(message)
-abbrev pub ReadMay : List ℕ → Arbitration → Unit {0} → Type 0
+abbrev pub ReadMay : List ℕ → Result Arbitration Fault → Unit {0} → Type 0
 ReadMay = May Read.Post (λ κs a. a.0.now) (λ κs e. tt)
 
 -- read_into(message, fields)
@@ -133,7 +135,7 @@ PrintoutMay = May Printout.Post (λ κs a. (a.0.now, a.1.0.now)) (λ κs e. e.1.
 -- ---- a capture
 
 -- read_frame(bytes)
-abbrev pub ReadFrameMay : List ℕ → Frame → Unit {0} → Type 0
+abbrev pub ReadFrameMay : List ℕ → Result Frame Frames.Refusal → Unit {0} → Type 0
 ReadFrameMay = May ReadFrame.Post (λ κs a. a.0.now) (λ κs e. tt)
 
 -- looks_streamed(message)
@@ -148,7 +150,7 @@ abbrev pub HostReadFrameMay : List ℕ × ℕ × List ℕ → ℕ → List ℕ �
 HostReadFrameMay = May HostReadFrame.Post (λ κs a. (a.0.now, a.1.0, a.1.1.0.now)) (λ κs e. e.1.1.0.now)
 
 -- shown(number, offset, frame, buf)
-abbrev pub ShownMay : ℕ × ℕ × Frame × List ℕ → ℕ → List ℕ → Type 0
+abbrev pub ShownMay : ℕ × ℕ × Result Frame Frames.Refusal × List ℕ → ℕ → List ℕ → Type 0
 ShownMay = May Shown.Post (λ κs a. (a.0, a.1.0, a.1.1.0, a.1.1.1.0.now)) (λ κs e. e.1.1.1.0.now)
 
 -- ended(number, buf)

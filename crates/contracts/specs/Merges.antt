@@ -1,5 +1,5 @@
 -- Merges that tell wrong programs apart: all that the contracts of `independent`, `compare`, `same_merge` and `report` let be said of them. Assumes nothing.
-use Rattle.std.specs.Prelude.{◌≡◌, refl, true, false, List, [], ◌∷◌, ◌++◌, ℕ, replicate}
+use Rattle.std.specs.Prelude.{◌≡◌, refl, true, false, List, [], ◌∷◌, ◌++◌, ℕ, replicate, Ok}
 use Rattle.any_text.specs.Line.{line}
 use Rattle.merge_compare.specs.Compare as C
 use Rattle.run_exchange.specs.Merged.{late, early}
@@ -38,7 +38,7 @@ join-unknown = only-independent (2, 1, 1, 14, 2)
 
 -- ---- two merges, of which one has two records of node 2 five places further down
 
-pub compare_same : Gives CompareMay (late, early) C.same tt
+pub compare_same : Gives CompareMay (late, early) (Ok C.same) tt
 unfolding compares
 compare_same = only-compare (late, early)
 
@@ -60,15 +60,15 @@ stopped = before ++ (12 ∷ 0 ∷ 11 ∷ 1 ∷ []) ++ trailer 9
 abbrev ended : List ℕ
 ended = before ++ trailer 7
 
-pub compare-order : Gives CompareMay (handled, stopped) (C.order 7 8 8 7) tt
+pub compare-order : Gives CompareMay (handled, stopped) (Ok (C.order 7 8 8 7)) tt
 unfolding compares
 compare-order = only-compare (handled, stopped)
 
-pub compare-first : Gives CompareMay (handled, ended) (C.only_first 7) tt
+pub compare-first : Gives CompareMay (handled, ended) (Ok (C.only_first 7)) tt
 unfolding compares
 compare-first = only-compare (handled, ended)
 
-pub compare-second : Gives CompareMay (ended, handled) (C.only_second 7) tt
+pub compare-second : Gives CompareMay (ended, handled) (Ok (C.only_second 7)) tt
 unfolding compares
 compare-second = only-compare (ended, handled)
 

@@ -1,6 +1,7 @@
 -- Arbitration messages that tell wrong readers apart: all that the contracts of `read`, `read_into` and `printout` let be said of them. Assumes nothing.
-use Rattle.std.specs.Prelude.{◌≡◌, refl, true, List, [], ◌∷◌, ◌++◌, ℕ, negsuc, replicate}
-use Rattle.wire_arbitration.specs.Arbitration.{refused}
+use Rattle.std.specs.Prelude.{◌≡◌, refl, true, List, [], ◌∷◌, ◌++◌, ℕ, negsuc, replicate, None, Some, Result, Ok, Err}
+use Rattle.wire_fields.specs.declared.Fault.{Fault}
+use Rattle.wire_fields.specs.declared.Fault.TheVariants.{CutShort, TooLarge}
 use Rattle.wire_arbitration.specs.declared.Arbitration.{Arbitration}
 use Rattle.wire_text.specs.Printout as P
 use Rattle.contracts.specs.Contract.{Gives}
@@ -12,14 +13,8 @@ use Rattle.contracts.specs.Only.{only-read, only-read-into}
 abbrev pub worked : List ℕ
 worked = 8 ∷ 7 ∷ 18 ∷ 2 ∷ 8 ∷ 5 ∷ 26 ∷ 4 ∷ 8 ∷ 1 ∷ 16 ∷ 2 ∷ 34 ∷ 11 ∷ 8 ∷ 251 ∷ 255 ∷ 255 ∷ 255 ∷ 255 ∷ 255 ∷ 255 ∷ 255 ∷ 255 ∷ 1 ∷ []
 
-abbrev fields : Arbitration
-fields = record {
-  code = 0;
-  device = 7;
-  role = record { present = true; id = 5 };
-  election = record { present = true; high = 1; low = 2 };
-  status = record { present = true; code = negsuc 4 };
-}
+abbrev fields : Result Arbitration Fault
+fields = Ok (record { device = 7; role = Some (record { id = 5 }); election = Some (record { high = 1; low = 2 }); status = Some (record { code = negsuc 4 }) })
 
 pub read-worked : Gives ReadMay worked fields tt
 unfolding messages
@@ -50,16 +45,16 @@ unfolding messages
 worked-printed = refl
 
 -- A number in field 2 is not the device id: nothing is said.
-pub read-other-number : Gives ReadMay (16 ∷ 1 ∷ []) (refused 0) tt
+pub read-other-number : Gives ReadMay (16 ∷ 1 ∷ []) (Ok (record { device = 0; role = None; election = None; status = None })) tt
 unfolding messages
 read-other-number = only-read (16 ∷ 1 ∷ [])
 
 -- The first fault is that in the role, which is cut short, and not the bad tag behind it.
-pub read-first-fault : Gives ReadMay (18 ∷ 1 ∷ 8 ∷ 0 ∷ []) (refused 13) tt
+pub read-first-fault : Gives ReadMay (18 ∷ 1 ∷ 8 ∷ 0 ∷ []) (Err CutShort) tt
 unfolding messages
 read-first-fault = only-read (18 ∷ 1 ∷ 8 ∷ 0 ∷ [])
 
 -- A number in eleven bytes.
-pub read-eleventh-byte : Gives ReadMay (8 ∷ replicate 10 128 ++ (0 ∷ [])) (refused 14) tt
+pub read-eleventh-byte : Gives ReadMay (8 ∷ replicate 10 128 ++ (0 ∷ [])) (Err TooLarge) tt
 unfolding messages
 read-eleventh-byte = only-read (8 ∷ replicate 10 128 ++ (0 ∷ []))

@@ -1,17 +1,21 @@
 -- The only answer that each contract leaves, by the definition that it cites. Assumes nothing.
-use Rattle.std.specs.Prelude.{◌≡◌, refl, List, ℕ, length}
-use Rattle.std.proofs.Common.{ap, ap₂, ◌∙◌, arith}
+use Rattle.std.specs.Prelude.{◌≡◌, refl, List, ℕ, length, Result, Ok, Err}
+use Rattle.std.proofs.Common.{sym, ap, ap₂, ◌∙◌, arith}
 use Rattle.std.proofs.lemmas.List.Edits.{sets}
 use Rattle.any_text.specs.Put.{Put}
-use Rattle.any_text.specs.declared.Printed.{Printed}
-use Rattle.any_text.specs.Printed.{Output, Prints}
+use Rattle.any_text.specs.Printed.{Output, printing, refusing, out_of, refusal_of, Prints}
+use Rattle.step_parts.specs.declared.Refusal.{Refusal}
 use Rattle.step_state.specs.Tidy.{state_fits}
-use Rattle.step.specs.Public.{stepped, freshened, reported}
+use Rattle.step_state.specs.declared.State.{State}
+use Rattle.step.specs.declared.Open.{Open}
+use Rattle.step.specs.declared.Stepped.{Stepped}
+use Rattle.step.specs.Public.{numbered, stepped, freshened, told, reported}
+use Rattle.step.specs.Numbers.{unnumbered, numbers-back, untold, told-back}
 use Rattle.rules_exchange.specs.Independent.{independent}
 use Rattle.run.specs.Ran.{ran}
 use Rattle.run_text.specs.Transcript.{transcript}
-use Rattle.list_write.specs.declared.Wrote.{Wrote}
 use Rattle.list_write.specs.Write.{wrote, return_of}
+use Rattle.step_parts.specs.Refusals.{answer_in, answer_by}
 use Rattle.list_source.specs.Printed.{output}
 use Rattle.list_text.specs.Shown as Texts
 use Rattle.merge_compare.specs.Compared.{compared}
@@ -23,11 +27,12 @@ use Rattle.wire_arbitration.specs.Arbitration.{arbitration}
 use Rattle.wire_bytes.specs.Bytes as Packed
 use Rattle.wire_text.specs.Printout.{printout}
 use Rattle.wire_frames.specs.Frames.{frame_at, looks_streamed}
+use Rattle.wire_frames.specs.declared.Refusal as Frame_refusal
 use Rattle.wire_frames.specs.declared.Frame.{Frame}
 use Rattle.wire_frames_bytes.specs.Reply.{frame_reply}
 use Rattle.wire_frames_text.specs.Shown.{frame_text, end_text}
 use Rattle.contracts.specs.Contract.{Gives, Only, only}
-use Rattle.contracts.specs.Calls.{FreshMay, StepMay, OpenStreamsMay, InRangeMay, IndependentMay, RunMay, HostRunMay, TranscriptMay, WriteMay, WriteCallMay, HostWriteMay, ListFromMay, TextOfMay, CompareMay, SameMergeMay, HostSameMergeMay, ReportMay, AnswerMay, ReadMay, ReadIntoMay, HostReadArbitrationMay, PrintoutMay, ReadFrameMay, LooksStreamedMay, FrameIntoMay, HostReadFrameMay, ShownMay, EndedMay}
+use Rattle.contracts.specs.Calls.{FreshMay, StepMay, OpenStreamsMay, InRangeMay, IndependentMay, HostRunMay, TranscriptMay, WriteMay, WriteCallMay, HostWriteMay, ListFromMay, TextOfMay, CompareMay, SameMergeMay, HostSameMergeMay, ReportMay, AnswerMay, ReadMay, ReadIntoMay, HostReadArbitrationMay, PrintoutMay, ReadFrameMay, LooksStreamedMay, FrameIntoMay, HostReadFrameMay, ShownMay, EndedMay}
 
 -- To g, the text t is put at the front of the buffer that is lent, and its length is returned; the bytes behind it stay.
 abbrev pub Puts : {G : Type 0} → (G → ℕ → List ℕ → Type 0) → G → List ℕ → List ℕ → Type 0
@@ -42,14 +47,21 @@ at_front p = (let n = p.place in omega arith, p.content)
 
 -- ---- a state
 
-pub only-fresh : Only FreshMay freshened (λ g. tt)
-only-fresh = only _ _ _ _ _ (λ κs a r e m. (m, refl))
+pub only-fresh : Only FreshMay (λ g. unnumbered (freshened g)) (λ g. tt)
+only-fresh = only _ _ _ _ _ (λ κs a r e m. (sym (numbers-back r) ∙ ap unnumbered m, refl))
 
-pub only_step : Only StepMay (λ g. stepped g.0 g.1 g.2) (λ g. tt)
-only_step = only _ _ _ _ _ (λ κs a r e m. (m, refl))
+pub only_step : Only StepMay (λ g. unnumbered (stepped g.0 g.1 g.2)) (λ g. tt)
+only_step = only _ _ _ _ _ (λ κs a r e m. (sym (numbers-back r) ∙ ap unnumbered m, refl))
 
-pub only-open-streams : Only OpenStreamsMay reported (λ g. tt)
-only-open-streams = only _ _ _ _ _ (λ κs a r e m. (m, refl))
+-- Its numbers are those of the rules.
+pub step-numbers : (g : State × ℕ × ℕ) (r : Stepped) → StepMay g r tt → numbered r ≡ stepped g.0 g.1 g.2
+step-numbers g r m = m.met ∙ ap (λ (x : State × ℕ × ℕ). stepped x.0 x.1 x.2) m.is-given
+
+pub only-open-streams : Only OpenStreamsMay (λ g. untold (reported g)) (λ g. tt)
+only-open-streams = only _ _ _ _ _ (λ κs a r e m. (sym (told-back r) ∙ ap untold m, refl))
+
+pub open-streams-told : (s : State) (r : Result Open Refusal) → OpenStreamsMay s r tt → told r ≡ reported s
+open-streams-told s r m = m.met ∙ ap reported m.is-given
 
 pub only-in-range : Only InRangeMay state_fits (λ g. tt)
 only-in-range = only _ _ _ _ _ (λ κs a r e m. (m, refl))
@@ -65,11 +77,11 @@ only-host-run = only _ _ _ _ _ (λ κs a r e m. m)
 pub only-transcript : (g : List ℕ × List ℕ) → Puts TranscriptMay g (transcript g.0) g.1
 only-transcript = only _ _ _ _ _ (λ κs a r e m. at_front m.0)
 
-abbrev pub wrote_of : ℕ × List ℕ × List ℕ → Wrote
-wrote_of g = record { code = (wrote g.0 g.1 g.2).code; length = (wrote g.0 g.1 g.2).length }
+abbrev pub wrote_of : ℕ × List ℕ × List ℕ → Result ℕ Refusal
+wrote_of g = answer_in (wrote g.0 g.1 g.2).length (wrote g.0 g.1 g.2).code
 
 pub only-write : Only WriteMay wrote_of (λ g. (wrote g.0 g.1 g.2).out)
-only-write = only _ _ _ _ _ (λ κs a r e m. (ap₂ (λ (c n : ℕ). record { code = c; length = n }) m.0 m.1, m.2))
+only-write = only _ _ _ _ _ (λ κs a r e m. (answer_by r _ _ m.0 m.1.0, m.1.1))
 
 pub only-write-call : Only WriteCallMay (λ g. return_of (wrote g.0 g.1 g.2)) (λ g. (wrote g.0 g.1 g.2).out)
 only-write-call = only _ _ _ _ _ (λ κs a r e m. m)
@@ -77,23 +89,30 @@ only-write-call = only _ _ _ _ _ (λ κs a r e m. m)
 pub only-host-write : Only HostWriteMay (λ g. return_of (wrote g.0 g.1 g.2)) (λ g. (wrote g.0 g.1 g.2).out)
 only-host-write = only _ _ _ _ _ (λ κs a r e m. m)
 
--- To g, an output or a line about a refusal is put at the front of its buffer, and their lengths are returned; the other bytes stay.
-abbrev pub PutsBoth : (List ℕ × List ℕ × List ℕ → Printed → List ℕ × List ℕ → Type 0) → (List ℕ → Output) → Type 0
-PutsBoth may o = Only may (λ g. record { out = length (o g.0).out; line = length (o g.0).refusal }) (λ g. (sets g.1 0 (o g.0).out, sets g.2 0 (o g.0).refusal))
+-- The length of an output, or of a line about a refusal.
+abbrev pub answered : Output → Result ℕ ℕ
+answered (printing out) = Ok (length out)
+answered (refusing line) = Err (length line)
+
+-- To g, an output or a line about a refusal is put at the front of its buffer, and its length is returned; the other bytes stay.
+abbrev pub PutsBoth : (List ℕ × List ℕ × List ℕ → Result ℕ ℕ → List ℕ × List ℕ → Type 0) → (List ℕ → Output) → Type 0
+PutsBoth may o = Only may (λ g. answered (o g.0)) (λ g. (sets g.1 0 (out_of (o g.0)), sets g.2 0 (refusal_of (o g.0))))
 
 abbrev pair : List ℕ → List ℕ → List ℕ × List ℕ
 pair a b = (a, b)
 
-both-fronts : {o : Output} {out line out' line' : List ℕ} {r : Printed} → Prints o out line out' line' r
-    → (r ≡ record { out = length o.out; line = length o.refusal }) × (◌≡◌ {A = List ℕ × List ℕ} (out', line') (sets out 0 o.out, sets line 0 o.refusal))
-both-fronts p =
-    (ap₂ (λ (n k : ℕ). record { out = n; line = k }) (at_front p.output).0 (at_front p.refusal).0, ap₂ pair (at_front p.output).1 (at_front p.refusal).1)
+both-fronts : (o : Output) (out line out' line' : List ℕ) (r : Result ℕ ℕ) → Prints o out line out' line' r
+    → (r ≡ answered o) × (◌≡◌ {A = List ℕ × List ℕ} (out', line') (sets out 0 (out_of o), sets line 0 (refusal_of o)))
+both-fronts (printing text) out line out' line' (Ok n) p = (ap Ok (at_front p.1.put).0, ap₂ pair (at_front p.1.put).1 p.2)
+both-fronts (printing text) out line out' line' (Err n) p = absurd p.0
+both-fronts (refusing text) out line out' line' (Ok n) p = absurd p.0
+both-fronts (refusing text) out line out' line' (Err n) p = (ap Err (at_front p.1.put).0, ap₂ pair p.2 (at_front p.1.put).1)
 
 pub only-list-from : PutsBoth ListFromMay output
-only-list-from = only _ _ _ _ _ (λ κs a r e m. both-fronts m)
+only-list-from = only _ _ _ _ _ (λ κs a r e m. both-fronts _ _ _ _ _ r m)
 
 pub only-text-of : PutsBoth TextOfMay Texts.shown
-only-text-of = only _ _ _ _ _ (λ κs a r e m. both-fronts m)
+only-text-of = only _ _ _ _ _ (λ κs a r e m. both-fronts _ _ _ _ _ r m)
 
 -- ---- two merges, and a log
 
@@ -140,7 +159,7 @@ only-frame-into = only _ _ _ _ _ (λ κs a r e m. m)
 pub only-host-read-frame : Only HostReadFrameMay (λ g. (frame_reply g.0 g.1 g.2).returned) (λ g. (frame_reply g.0 g.1 g.2).out)
 only-host-read-frame = only _ _ _ _ _ (λ κs a r e m. m)
 
-pub only-shown : (g : ℕ × ℕ × Frame × List ℕ) → Puts ShownMay g (frame_text g.0 g.1 g.2) g.3
+pub only-shown : (g : ℕ × ℕ × Result Frame Frame_refusal.Refusal × List ℕ) → Puts ShownMay g (frame_text g.0 g.1 g.2) g.3
 only-shown = only _ _ _ _ _ (λ κs a r e m. at_front m.0)
 
 pub only-ended : (g : ℕ × List ℕ) → Puts EndedMay g (end_text g.0) g.1

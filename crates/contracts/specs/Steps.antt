@@ -3,34 +3,36 @@ use Rattle.std.specs.Prelude.{◌≡◌, refl, List, [], ◌∷◌, ℕ, T}
 use Rattle.std.proofs.Common.{sym, ap, ap₂, ◌∙◌}
 use Rattle.rules.specs.State as S
 use Rattle.rules.specs.Range.{in_range}
+use Rattle.rules.specs.Part.{Result}
 use Rattle.rules.specs.Step as Rules
 use Rattle.rules.specs.Step.{Event}
 use Rattle.rules.specs.Run.{run}
 use Rattle.rules_laws.specs.Steps.{step_keeps, run-keeps}
-use Rattle.rules_cases.specs.Situation.{Claim, Situation, Every, Holds}
+use Rattle.rules_cases.specs.Situation.{Situation, Every, Holds}
 use Rattle.rules_cases.specs.Table.{table, situations}
+use Rattle.step_parts.specs.Answers.{code_of}
 use Rattle.step_state.specs.Hold.{hold, represent}
 use Rattle.step_state.specs.declared.State.{State}
 use Rattle.step_bridge.specs.Held.{hold-represent}
 use Rattle.step_bridge.specs.Passes.{fits-represent}
-use Rattle.step.specs.Public.{written, stepped}
+use Rattle.step.specs.Public.{numbered, written, stepped}
 use Rattle.step.specs.declared.Stepped.{Stepped}
 use Rattle.contracts.specs.Calls.{StepMay}
-use Rattle.contracts.specs.Only.{only_step}
+use Rattle.contracts.specs.Only.{step-numbers}
 
 -- From state s, steps that are answered as the contract lets them be, each from the state that the one before it left: their answers, and the last state.
 abbrev pub Taken : State → List Event → List ℕ → State → Type 0
 Taken s [] [] t = t ≡ s
 Taken s [] (a ∷ answers) t = ⊥
 Taken s (e ∷ es) [] t = ⊥
-Taken s (e ∷ es) (a ∷ answers) t = (u : State) × StepMay (s, e.kind, e.node) (record { code = a; state = u }) tt × Taken u es answers t
+Taken s (e ∷ es) (a ∷ answers) t = (r : Stepped) × (code_of r.answer ≡ a) × StepMay (s, e.kind, e.node) r tt × Taken r.state es answers t
 
 -- ---- one step
 
 -- From a state in range there is one answer, that of the rules.
-pub by-rules : (e : Event) (s : S.State) → T (in_range s) → (r : Stepped) → StepMay (represent s, e.kind, e.node) r tt → r ≡ written (Rules.step e s)
+pub by-rules : (e : Event) (s : S.State) → T (in_range s) → (r : Stepped) → StepMay (represent s, e.kind, e.node) r tt → numbered r ≡ written (Rules.step e s)
 unfolding stepped
-by-rules e s fits r m = (only_step (represent s, e.kind, e.node) r tt m).0 ∙ rw (fits-represent s fits) (ap (λ t. written (Rules.step e t)) (hold-represent s fits))
+by-rules e s fits r m = step-numbers (represent s, e.kind, e.node) r m ∙ rw (fits-represent s fits) (ap (λ t. written (Rules.step e t)) (hold-represent s fits))
 
 -- ---- several
 
@@ -39,10 +41,9 @@ taken [] [] s u t fits p k = (refl, k ∙ p)
 taken [] (a ∷ answers) s u t fits p k = absurd k
 taken (e ∷ es) [] s u t fits p k = absurd k
 taken (e ∷ es) (a ∷ answers) s u t fits p k =
-    let r : Stepped = record { code = a; state = k.0 } in
-    let w = by-rules e s fits r (rw p at k.1) in
-    let rest = taken es answers (Rules.step e s).state k.0 t (step_keeps e s fits) (ap (λ (x : Stepped). x.state) w) k.2 in
-    (ap₂ (λ (x : ℕ) (l : List ℕ). x ∷ l) (ap (λ (x : Stepped). x.code) w) rest.0, rest.1)
+    let w = by-rules e s fits k.0 (rw p at k.2) in
+    let rest = taken es answers (Rules.step e s).state k.0.state t (step_keeps e s fits) (ap (λ (x : Result ℕ State). x.state) w) k.3 in
+    (ap₂ (λ (x : ℕ) (l : List ℕ). x ∷ l) (sym k.1 ∙ ap (λ (x : Result ℕ State). x.answer) w) rest.0, rest.1)
 
 -- ---- the small situations: whatever meets the contract answers as they say, and then what they say stands in the state
 

@@ -1,6 +1,7 @@
 -- The five wrong programs that the scope names. Each is shut out by a contract: no program that meets it is one of them; of runners, in proofs/Wrong. The right program is not shut out. Assumes nothing.
 use Rattle.std.proofs.Math.Path.{◌≡◌, refl, sym, ap}
 use Rattle.std.proofs.Common.{◌∙◌}
+use Rattle.std.specs.Prelude as P
 use Rattle.std.specs.Prelude.{◌≢◌, ℕ, ◌+◌, ◌≤◌, ◌<◌, T, length, replicate}
 use mathlib.Core.List.{List, [], ◌∷◌}
 use native.Mathlib.Omega.{arith}
@@ -9,7 +10,8 @@ use Rattle.std.proofs.Math.ListN.{get_or}
 use Rattle.rules.specs.State as S
 use Rattle.rules.specs.Range.{in_range}
 use Rattle.rules.specs.Step as Rules
-use Rattle.rules.specs.Open.{open_number, open_report}
+use Rattle.rules.specs.Part.{Result}
+use Rattle.rules.specs.Open.{Report, open_number, open_report}
 use Rattle.rules_laws.specs.Steps.{fresh-fits}
 use Rattle.rules_laws.specs.Computed.{computed}
 use Rattle.rules_laws.specs.Tests.{is-yes}
@@ -17,14 +19,17 @@ use Rattle.step_state.specs.Hold.{represent}
 use Rattle.step_state.specs.declared.State.{State}
 use Rattle.step_bridge.specs.Held.{hold-represent}
 use Rattle.step_bridge.specs.Passes.{fits-represent}
-use Rattle.step.specs.Public.{stepped, reported}
+use Rattle.step.specs.Public.{stepped, told, reported}
+use Rattle.step.specs.Numbers.{unnumbered, step-numbered, untold, report-told}
 use Rattle.step.specs.declared.Stepped.{Stepped}
-use Rattle.step.specs.declared.Report.{Report}
+use Rattle.step.specs.declared.Open.{Open}
+use Rattle.step_parts.specs.Answers.{code_of}
+use Rattle.step_parts.specs.declared.Refusal.{Refusal}
 use Rattle.run_lists.specs.EventList.{record_count}
 use Rattle.run.specs.Ran.{Ran, no_writes, whole_run, run_refusal, ran}
-use Rattle.contracts.specs.Opened.{states, runs}
+use Rattle.contracts.specs.Opened.{states}
 use Rattle.contracts.specs.Calls.{StepMay, OpenStreamsMay, RunMay}
-use Rattle.contracts.specs.Only.{only-open-streams}
+use Rattle.contracts.specs.Only.{open-streams-told}
 use Rattle.contracts.specs.Steps.{by-rules}
 
 -- ---- steppers
@@ -38,20 +43,21 @@ abbrev pub Steps : Stepper → Type 0
 Steps f = (s : State) (kind node : ℕ) → StepMay (s, kind, node) (f s kind node) tt
 
 -- The right one does.
-pub right-steps : Steps stepped
-right-steps s kind node = record { lifetimes = tt; arguments = (s, (kind, (node, tt))); exit = (s, (kind, (node, tt))); is-given = refl; leaves = refl; met = refl }
+pub right-steps : Steps (λ s kind node. unnumbered (stepped s kind node))
+right-steps s kind node =
+    record { lifetimes = tt; arguments = (s, (kind, (node, tt))); exit = (s, (kind, (node, tt))); is-given = refl; leaves = refl; met = step-numbered s kind node }
 
 -- 1: it refuses all.
 abbrev pub RefusesAll : Stepper → Type 0
-RefusesAll f = (s : State) (kind node : ℕ) → (f s kind node).code ≢ 0
+RefusesAll f = (s : State) (kind node : ℕ) → code_of (f s kind node).answer ≢ 0
 
 -- 2: where it answers 0, it changes nothing.
 abbrev pub ChangesNothing : Stepper → Type 0
-ChangesNothing f = (s : State) (kind node : ℕ) → (f s kind node).code ≡ 0 → (f s kind node).state ≡ s
+ChangesNothing f = (s : State) (kind node : ℕ) → code_of (f s kind node).answer ≡ 0 → (f s kind node).state ≡ s
 
 -- 3: it has a fixed answer.
 abbrev pub FixedAnswer : ℕ → Stepper → Type 0
-FixedAnswer answer f = (s : State) (kind node : ℕ) → (f s kind node).code ≡ answer
+FixedAnswer answer f = (s : State) (kind node : ℕ) → code_of (f s kind node).answer ≡ answer
 
 -- The fresh state of two nodes.
 abbrev begun : State
@@ -62,18 +68,18 @@ fits = fresh-fits 2 (omega arith) (omega arith)
 
 module _ (f : Stepper) (meets : Steps f) where
   -- Join 1 is done, and the service then has master 1.
-  joins : (f begun 1 1).code ≡ 0
+  joins : code_of (f begun 1 1).answer ≡ 0
   unfolding computed
-  joins = ap (λ (r : Stepped). r.code) (by-rules (record { kind = 1; node = 1 }) (Rules.fresh 2) fits (f begun 1 1) (meets begun 1 1))
+  joins = ap (λ (r : Result ℕ State). r.answer) (by-rules (record { kind = 1; node = 1 }) (Rules.fresh 2) fits (f begun 1 1) (meets begun 1 1))
 
   elects : (f begun 1 1).state.core.service.master ≡ 1
   unfolding states
-  elects = ap (λ (r : Stepped). r.state.core.service.master) (by-rules (record { kind = 1; node = 1 }) (Rules.fresh 2) fits (f begun 1 1) (meets begun 1 1))
+  elects = ap (λ (r : Result ℕ State). r.state.core.service.master) (by-rules (record { kind = 1; node = 1 }) (Rules.fresh 2) fits (f begun 1 1) (meets begun 1 1))
 
   -- Connect 3 is refused: there is no node 3.
-  refuses : (f begun 8 3).code ≡ 3
+  refuses : code_of (f begun 8 3).answer ≡ 3
   unfolding computed
-  refuses = ap (λ (r : Stepped). r.code) (by-rules (record { kind = 8; node = 3 }) (Rules.fresh 2) fits (f begun 8 3) (meets begun 8 3))
+  refuses = ap (λ (r : Result ℕ State). r.answer) (by-rules (record { kind = 8; node = 3 }) (Rules.fresh 2) fits (f begun 8 3) (meets begun 8 3))
 
   pub not-refuses-all : ¬ RefusesAll f
   not-refuses-all wrong = wrong begun 1 1 joins
@@ -136,22 +142,22 @@ lent = replicate 4098 0
 
 -- A program that reports the open streams of a state.
 abbrev pub Reporter : Type 0
-Reporter = State → Report
+Reporter = State → P.Result Open Refusal
 
 -- It meets the contract of `open_streams`.
 abbrev pub Reports : Reporter → Type 0
 Reports f = (s : State) → OpenStreamsMay s (f s) tt
 
 -- The right one does.
-pub right-reports : Reports reported
-right-reports s = record { lifetimes = tt; arguments = (s, tt); exit = (s, tt); is-given = refl; leaves = refl; met = refl }
+pub right-reports : Reports (λ s. untold (reported s))
+right-reports s = record { lifetimes = tt; arguments = (s, tt); exit = (s, tt); is-given = refl; leaves = refl; met = report-told s }
 
 -- 5: for some state in range, the number is not that of the open streams.
 abbrev pub MakesUpStreams : Reporter → Type 0
-MakesUpStreams f = (s : S.State) × T (in_range s) × ((f (represent s)).number ≢ open_number s.core.board.opens)
+MakesUpStreams f = (s : S.State) × T (in_range s) × ((told (f (represent s))).number ≢ open_number s.core.board.opens)
 
 module _ (f : Reporter) (meets : Reports f) where
   pub not-makes-up-streams : ¬ MakesUpStreams f
   unfolding reported open_report
-  not-makes-up-streams (s, fits, wrong) = wrong (ap (λ (r : Report). r.number) (only-open-streams (represent s) (f (represent s)) tt (meets (represent s))).0
+  not-makes-up-streams (s, fits, wrong) = wrong (ap (λ (r : Report). r.number) (open-streams-told (represent s) (f (represent s)) (meets (represent s)))
       ∙ rw (fits-represent s fits, hold-represent s fits, (is-yes (in_range s)).to fits) refl)

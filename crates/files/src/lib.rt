@@ -3,12 +3,11 @@
 // No contract can speak of bytes that come from outside or go there. Those here say that what was read lies within the buffer that was lent.
 #![tactic(auto)]
 
-ghost use Rattle.std.specs.Prelude.{◌≡◌, ◌↔◌, ◌<◌, length, take, IfOk, OnOk, IsTrue};
-ghost use Rattle.files.specs.declared.Output.TheVariants.{Whole};
+ghost use Rattle.std.specs.Prelude.{◌≡◌, ◌↔◌, ◌<◌, length, take, IfOk, IfErr, IsOk, OnOk};
 ghost use Rattle.std.specs.Io.KnownBytes.{Appends, Consumes, IsAtEnd};
 ghost use Rattle.std.specs.Process.{exit_status};
-ghost use Rattle.files.specs.Status.{status_of};
-ghost use Rattle.files.specs.Within.{IsPrefixLen, IsRefused, Within};
+ghost use Rattle.files.specs.Status.{status_of, IsUnprinted};
+ghost use Rattle.files.specs.Within.{IsPrefixLen, Within};
 
 use std::env::{Env, FillError};
 use std::fmt::InlineText;
@@ -21,46 +20,31 @@ use std::{fs, io};
 // An input that signals interrupt more often than this counts as one that failed.
 const MOST_INTERRUPTIONS: usize = 1000;
 
-// What reading came to: so many bytes at the buffer's start, fewer than fill it only where the input ended there; or a refusal, and what printing it came to.
+// Why a program stops before all is printed. What it was has been said on standard error.
 #[derive(Clone, Copy)]
-pub enum Input {
-    Whole(usize),
-    Refused(Output),
-}
-
-// What printing came to: all was taken; or not all, which has been said on standard error; or it went where nobody reads any more, which has been said too.
-#[derive(Clone, Copy)]
-pub enum Output {
-    Whole,
+pub enum Stop {
+    // An input could not be read, and the line that is the answer was printed.
+    Refused,
+    // Not all output was taken.
     Lost,
+    // Output went where nobody reads any more.
     Unread,
 }
 
 // The status that a shell gives of a program which was ended by the signal for output that nobody reads.
 const UNREAD: u8 = 141;
 
-impl Output {
-    pub fn is_whole(self) -> bool
-        ensures { IsTrue result ↔ (self ≡ Whole) }
-    {
-        match self {
-            Output::Whole => true,
-            _ => false,
-        }
-    }
-
-    // The status that a program ends with.
-    pub fn status(self) -> ExitCode
-        ensures { exit_status result ≡ status_of self }
-    {
-        match self {
-            Output::Unread => ExitCode::from(UNREAD),
-            _ => ExitCode::SUCCESS,
-        }
+// The status that a program ends with.
+pub fn status(end: Result<(), Stop>) -> ExitCode
+    ensures { exit_status result ≡ status_of end }
+{
+    match end {
+        Err(Stop::Unread) => ExitCode::from(UNREAD),
+        _ => ExitCode::SUCCESS,
     }
 }
 
-// Writes all of a text, unless a write fails.
+// Writes all of a text, unless a write fails. Not std's `write_all`: that one goes on where a signal interrupts, and has other words for a writer that takes nothing.
 fn write_whole<W: Write>(writer: &mut W, text: &[u8]) -> io::Result<()>
     ensures { OnOk result (Appends (W.contents writer.old) (W.contents writer.new) text.now) }
 {
@@ -75,18 +59,29 @@ fn write_whole<W: Write>(writer: &mut W, text: &[u8]) -> io::Result<()>
     Ok(())
 }
 
-// Writes a text to standard output. Where not all of it was taken, the reason is written to standard error.
-pub fn print(rt: &HostRuntime, text: &[u8]) -> Output {
-    match write_whole(&mut rt.stdout(), text) {
-        Ok(()) => Output::Whole,
+// What writing to standard output came to. Where it failed, the reason is written to standard error.
+fn told(rt: &HostRuntime, written: io::Result<()>) -> Result<(), Stop>
+    ensures whole { IsOk result ↔ IsOk written }
+    ensures printed { IfErr result IsUnprinted }
+{
+    match written {
+        Ok(()) => Ok(()),
         Err(error) => {
             say(rt, b"standard output", error);
             if error.kind() == ErrorKind::BrokenPipe {
-                return Output::Unread;
+                return Err(Stop::Unread);
             }
-            Output::Lost
+            Err(Stop::Lost)
         }
     }
+}
+
+// Writes a text to standard output. Where not all of it was taken, the reason is written to standard error.
+pub fn print(rt: &HostRuntime, text: &[u8]) -> Result<(), Stop>
+    ensures { IfErr result IsUnprinted }
+{
+    let written = write_whole(&mut rt.stdout(), text);
+    told(rt, written)
 }
 
 // Writes a text to standard error.
@@ -112,11 +107,12 @@ fn words(reason: &str) -> &str {
 }
 
 // What failed and why, on standard error, and the line that is the answer.
-fn refuse(rt: &HostRuntime, name: &[u8], line: &[u8], error: Error) -> Input
-    ensures { IsRefused result }
-{
+fn refuse(rt: &HostRuntime, name: &[u8], line: &[u8], error: Error) -> Stop {
     say(rt, name, error);
-    Input::Refused(print(rt, line))
+    match print(rt, line) {
+        Ok(()) => Stop::Refused,
+        Err(stop) => stop,
+    }
 }
 
 // Fills the buffer as far as the input goes. A read that a signal interrupts is tried again.
@@ -145,24 +141,24 @@ fn fill<R: Read>(reader: &mut R, buf: &mut [u8]) -> io::Result<usize>
     Ok(done)
 }
 
-// Where a read fails, the line is printed.
+// How many bytes were read, fewer than fill the buffer only where the input ended. Where a read fails, the line is printed.
 fn read_from<R: Read>(
     rt: &HostRuntime,
     reader: &mut R,
     name: &[u8],
     line: &[u8],
     buf: &mut [u8],
-) -> Input
+) -> Result<usize, Stop>
     ensures { Within result buf.new }
 {
     match fill(reader, buf) {
-        Ok(n) => Input::Whole(n),
-        Err(error) => refuse(rt, name, line, error),
+        Ok(n) => Ok(n),
+        Err(error) => Err(refuse(rt, name, line, error)),
     }
 }
 
 // Reads standard input. Where a read fails, `refused file` is printed.
-pub fn read_input(rt: &HostRuntime, buf: &mut [u8]) -> Input
+pub fn read_input(rt: &HostRuntime, buf: &mut [u8]) -> Result<usize, Stop>
     ensures { Within result buf.new }
 {
     let mut stdin = rt.stdin();
@@ -170,15 +166,15 @@ pub fn read_input(rt: &HostRuntime, buf: &mut [u8]) -> Input
 }
 
 // Reads standard input for a program whose output is no text of answers: where a read fails, `refused file` goes to standard error.
-pub fn read_source(rt: &HostRuntime, buf: &mut [u8]) -> Input
+pub fn read_source(rt: &HostRuntime, buf: &mut [u8]) -> Result<usize, Stop>
     ensures { Within result buf.new }
 {
     let mut stdin = rt.stdin();
-    let input = read_from(rt, &mut stdin, b"standard input", b"", buf);
-    if let Input::Refused(_) = input {
+    let read = read_from(rt, &mut stdin, b"standard input", b"", buf);
+    if read.is_err() {
         warn(rt, b"refused file\n");
     }
-    input
+    read
 }
 
 // Whether the program was started with so many arguments, its own name among them.
@@ -205,25 +201,22 @@ fn open(rt: &HostRuntime, name: &[u8]) -> io::Result<File> {
 }
 
 // Reads the file that argument i names. Where it cannot be opened or a read fails, the line is printed.
-pub fn read_argument(rt: &HostRuntime, i: usize, line: &[u8], buf: &mut [u8]) -> Input
+pub fn read_argument(rt: &HostRuntime, i: usize, line: &[u8], buf: &mut [u8]) -> Result<usize, Stop>
     ensures { Within result buf.new }
 {
     let mut room = [0u8; 4096];
     let length = match rt.arg(i, &mut room) {
         Ok(length) => length,
         Err(FillError::TooLong) => {
-            return refuse(rt, b"argument", line, Error::from_raw_os_error(36));
+            return Err(refuse(rt, b"argument", line, Error::from_raw_os_error(36)));
         }
         Err(FillError::NotPresent) => {
-            return refuse(rt, b"argument", line, Error::from_raw_os_error(22));
+            return Err(refuse(rt, b"argument", line, Error::from_raw_os_error(22)));
         }
     };
     let name = &room[..length];
     match open(rt, name) {
-        Ok(file) => {
-            let mut file = file;
-            read_from(rt, &mut file, name, line, buf)
-        }
-        Err(error) => refuse(rt, name, line, error),
+        Ok(mut file) => read_from(rt, &mut file, name, line, buf),
+        Err(error) => Err(refuse(rt, name, line, error)),
     }
 }

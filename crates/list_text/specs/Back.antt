@@ -1,5 +1,5 @@
 -- There and back: what `write_list` makes of the text that `read_list` prints for a list. Assumes nothing.
-use Rattle.std.specs.Prelude.{◌≡◌, Bool, true, false, not, ◌&&◌, ◌||◌, ℕ, zero, suc, ◌+◌, ◌*◌, ◌≤◌, ◌<◌, T, eqb, leb, length, get_or}
+use Rattle.std.specs.Prelude.{◌≡◌, Bool, true, false, not, ◌&&◌, ◌||◌, Option, Some, None, ℕ, zero, suc, ◌+◌, ◌*◌, ◌≤◌, ◌<◌, T, eqb, leb, length, get_or}
 use Rattle.std.proofs.Math.Path.{refl, ap}
 use Rattle.std.proofs.Common.{sym, ◌∙◌, true≢false, arith, length-append}
 use Rattle.std.proofs.Math.Option.{none}
@@ -23,15 +23,13 @@ use Rattle.any_words.specs.Text as W
 use Rattle.any_words.specs.Text.{is_newline, is_blank, is_digit, pieces, full, words, same, number_of}
 use Rattle.any_words.specs.Numbers.{first-true, both_true}
 use Rattle.any_words.specs.Joined.{clear, clear_both, clear-number, piece_then, piece-last}
-use Rattle.list_words.specs.declared.Byte.{Byte}
-use Rattle.list_words.specs.declared.Byte.TheVariants.{Is, No}
 use Rattle.list_words.specs.declared.Line.TheVariants.{Step}
 use Rattle.list_words.specs.Names.{bytes, names, name_of}
 use Rattle.list_words.specs.Line.{small, byte_of, kind_named, kind_said, said, of_words, is_hash, line_of}
 use Rattle.rules.specs.Limits.{most_nodes}
 use Rattle.rules.specs.Range.{within}
 use Rattle.rules_laws.specs.InRange.{Within}
-use Rattle.any_text.specs.Printed.{printing}
+use Rattle.any_text.specs.Printed.{printing, out_of}
 use Rattle.run_lists.specs.EventList.{longest, byte_at, first_record, record_count, node_count, refusal, record_at, records}
 use Rattle.run_lists.specs.Listed.{list_of}
 use Rattle.run_lists.specs.Good.{good, records-length}
@@ -51,7 +49,7 @@ unfolding all
 all_digits k end = refl
 all_digits k (next {d} {l} h r) = rw (digit-is d h) (all_digits l r)
 
-byte-back : (n : ℕ) → n ≤ 255 → byte_of (decimal n) ≡ Is n
+byte-back : (n : ℕ) → n ≤ 255 → byte_of (decimal n) ≡ Some n
 unfolding number_of
 byte-back n h =
     let w = width n 2 (omega arith) in
@@ -96,9 +94,9 @@ module _ (b : ℕ) (w : List ℕ) (n : ℕ) (blanks : clear is_blank (b ∷ w) �
 -- ---- the names
 
 -- A kind is named by a word without blanks, "#" and newlines, which is not "nodes" and says the kind.
-says : Byte → ℕ → Bool
-says (Is j) k = eqb j k
-says No k = false
+says : Option ℕ → ℕ → Bool
+says (Some j) k = eqb j k
+says None k = false
 
 named : ℕ → Bool
 named k = clear is_blank (name_of k) && clear is_hash (name_of k) && clear is_newline (name_of k) && leb (length (name_of k)) 14 && leb 1 (length (name_of k))
@@ -129,12 +127,12 @@ record Named (k : ℕ) : Type 0 where
   short : length (name_of k) ≤ 14
   some : 1 ≤ length (name_of k)
   other : same (name_of k) (bytes "nodes") ≡ false
-  kind : kind_said (name_of k) ≡ Is k
+  kind : kind_said (name_of k) ≡ Some k
 
-says-it : (b : Byte) (k : ℕ) → says b k ≡ true → b ≡ Is k
+says-it : (b : Option ℕ) (k : ℕ) → says b k ≡ true → b ≡ Some k
 unfolding says
-says-it (Is j) k e = ap Is (eqb-true j k e)
-says-it No k e = absurd (true≢false (sym e))
+says-it (Some j) k e = ap Some (eqb-true j k e)
+says-it None k e = absurd (true≢false (sym e))
 
 with-name : (k : ℕ) → 1 ≤ k → k ≤ 13 → Named k
 unfolding named
@@ -305,7 +303,7 @@ module _ (list : List ℕ) (ok : refusal list ≡ 0) (small : (i : ℕ) → byte
       few (suc i) = omega arith
 
   -- What is printed for a list is read as its steps, and written as the list of them.
-  pub rewritten : output (shown list).out ≡ printing (list_of (node_count list) (records list))
+  pub rewritten : output (out_of (shown list)) ≡ printing (list_of (node_count list) (records list))
   unfolding shown output written
   rewritten =
       let g = good list ok in
@@ -316,5 +314,5 @@ module _ (list : List ℕ) (ok : refusal list ≡ 0) (small : (i : ℕ) → byte
       rw (ok, le-leb (length (list_text list)) longest_text text-short, r, none-bad list ok all longest (omega arith)) refl
 
   -- Byte for byte, where there are no notes.
-  pub given_back : first_record list ≡ 0 → output (shown list).out ≡ printing list
+  pub given_back : first_record list ≡ 0 → output (out_of (shown list)) ≡ printing list
   given_back bare = rewritten ∙ ap printing (list_back list ok bare small)

@@ -1,8 +1,8 @@
 -- The text of a list, line by line. Assumes nothing.
-use Rattle.std.specs.Prelude.{◌≡◌, List, [], ◌∷◌, ◌++◌, length, get_or, take}
+use Rattle.std.specs.Prelude.{◌≡◌, List, [], ◌∷◌, ◌++◌, length}
 use Rattle.std.proofs.Math.Path.{refl, ap}
 use Rattle.std.proofs.Common.{sym, ◌∙◌, append_assoc, arith, length-take-le}
-use Prim.Native.Nat.{ℕ, zero, suc, ◌+◌, ◌<◌}
+use Prim.Native.Nat.{ℕ, zero, suc, ◌<◌}
 use Rattle.any_text.specs.Decimal.{decimal}
 use Rattle.any_text.specs.Lines.{newline, refused_line}
 use Rattle.any_text.specs.Line.{spaced, line, lines}
@@ -11,24 +11,22 @@ use Rattle.any_text.specs.Puts.{put_then}
 use Rattle.any_text.specs.Printed.{printing, refusing}
 use Rattle.run_lists.specs.declared.Trailer.{Trailer}
 use Rattle.run_lists.specs.EventList.{refusal}
-use Rattle.run_lists.specs.Reads.{trailer_of}
-use Rattle.run_lists.specs.Good.{trailer-code}
 use Rattle.run_lists.specs.Trails.{Trails}
 use Rattle.list_words.specs.Names.{bytes, name_of}
-use Rattle.list_words.specs.Naming.{Named}
 use Rattle.list_text.specs.Shown.{or_number, kind_word, step_line_at, notes_line, list_text, shown_for, shown}
 
 -- ---- the line of a step
 
-module _ (kind : ℕ) {name : List ℕ} (n : Named name (name_of kind)) where
-  pub no_name : get_or name 14 0 ≡ 0 → decimal kind ≡ kind_word kind
-  no_name e = ap (λ (w : List ℕ). or_number w kind) (ap (λ (i : ℕ). take i name) (sym e) ∙ n.is)
+module _ (kind : ℕ) {name : List ℕ} (n : name ≡ name_of kind) where
+  pub no_name : length name ≡ 0 → decimal kind ≡ kind_word kind
+  no_name e = go name e ∙ ap (λ (w : List ℕ). or_number w kind) n
+    where
+      go : (w : List ℕ) → length w ≡ 0 → decimal kind ≡ or_number w kind
+      go [] h = refl
+      go (b ∷ w) h = absurd (omega arith)
 
-  pub name-length : length (take (get_or name 14 0) name) ≡ get_or name 14 0
-  name-length = length-take-le (get_or name 14 0) name (let z = n.size in let s = n.short in omega arith)
-
-  pub with-name : 0 < get_or name 14 0 → take (get_or name 14 0) name ≡ kind_word kind
-  with-name h = go (take (get_or name 14 0) name) (let z = name-length in omega arith) ∙ ap (λ (w : List ℕ). or_number w kind) n.is
+  pub with-name : 0 < length name → name ≡ kind_word kind
+  with-name h = go name h ∙ ap (λ (w : List ℕ). or_number w kind) n
     where
       go : (w : List ℕ) → 0 < length w → w ≡ or_number w kind
       go [] h = absurd (omega arith)
@@ -55,17 +53,14 @@ whole-text is p q r = rw (← is.nodes, ← is.records, ← is.first) (put_then 
 
 -- ---- what is printed
 
-module _ (list : List ℕ) {t : Trailer} (is : t ≡ trailer_of list) where
-  code_is : t.code ≡ refusal list
-  code_is = ap (λ (x : Trailer). x.code) is ∙ trailer-code list
-
-  pub shows-text : t.code ≡ 0 → shown list ≡ printing (list_text list)
+module _ (list : List ℕ) where
+  pub shows-text : refusal list ≡ 0 → shown list ≡ printing (list_text list)
   unfolding shown
-  shows-text e = ap (λ (c : ℕ). shown_for c list) (sym code_is ∙ e)
+  shows-text e = ap (λ (c : ℕ). shown_for c list) e
 
-  pub shows-refusal : 0 < t.code → shown list ≡ refusing (refused_line t.code)
+  pub shows-refusal : {n : ℕ} → n ≡ refusal list → 0 < n → shown list ≡ refusing (refused_line n)
   unfolding shown
-  shows-refusal h = ap (λ (c : ℕ). shown_for c list) (sym code_is) ∙ go t.code h
+  shows-refusal {n} e h = ap (λ (c : ℕ). shown_for c list) (sym e) ∙ go n h
     where
       go : (c : ℕ) → 0 < c → shown_for c list ≡ refusing (refused_line c)
       go zero h = absurd (omega arith)

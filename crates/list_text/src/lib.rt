@@ -5,11 +5,9 @@ ghost use Rattle.std.specs.Prelude.{◌+◌, ◌*◌, ◌≤◌, length};
 ghost use Rattle.any_text.specs.Put.{Put};
 ghost use Rattle.any_text.specs.Lined.{Lined};
 ghost use Rattle.any_text.specs.Printed.{Prints};
-ghost use Rattle.run_lists.specs.Trails.{Trails};
 ghost use Rattle.list_text.specs.Shown.{kind_word, step_line, step_line_at, notes_line, list_text, shown};
 
-use any_text::Printed;
-use run_lists::Trailer;
+use run_lists::EventList;
 
 // Room for the longest text: 32,762 lines of 36 bytes, and two more.
 pub const LONGEST_TEXT: usize = 1180000;
@@ -23,11 +21,10 @@ fn put_kind(buf: &mut [u8], at: usize, kind: u8) -> usize
     ensures { Put buf.old at (kind_word kind) buf.new result × (result ≤ at + 14) }
 {
     let name = list_words::name_of(kind);
-    let size = name[list_words::LONGEST_NAME] as usize;
-    if size == 0 {
-        return any_text::put_wide(buf, at, kind as u64);
+    if name.is_empty() {
+        return any_text::put_wide(buf, at, u64::from(kind));
     }
-    any_text::put_word(buf, at, &name[..size])
+    any_text::put_word(buf, at, name)
 }
 
 fn put_step(buf: &mut [u8], at: usize, kind: u8, node: u8) -> usize
@@ -39,16 +36,14 @@ fn put_step(buf: &mut [u8], at: usize, kind: u8, node: u8) -> usize
     any_text::put_line(buf, next, b"", &numbers)
 }
 
-fn put_steps(buf: &mut [u8], at: usize, list: &[u8], trailer: Trailer) -> usize
-    requires { Trails list.now trailer × (at + 36 * trailer.records ≤ length buf.old) }
-    ensures { Lined (step_line_at list.now) 36 buf.old at trailer.records buf.new result }
+fn put_steps(buf: &mut [u8], at: usize, list: EventList) -> usize
+    requires { at + 36 * list.trailer.records ≤ length buf.old }
+    ensures { Lined (step_line_at list.entry.bytes.now) 36 buf.old at list.entry.trailer.records buf.new result }
 {
     let mut next = at;
-    let mut i: usize = 0;
-    while i < trailer.records {
-        let event = run_lists::read_record(list, trailer.first, i);
+    for i in 0..list.trailer.records {
+        let event = list.record(i);
         next = put_step(buf, next, event.kind, event.node);
-        i += 1;
     }
     next
 }
@@ -66,37 +61,32 @@ fn put_notes(buf: &mut [u8], at: usize, first: usize) -> usize
 }
 
 // The text of a list that is not refused.
-fn put_text(buf: &mut [u8], list: &[u8], trailer: Trailer) -> usize
-    requires { Trails list.now trailer × (1180000 ≤ length buf.old) }
-    ensures { Put buf.old 0 (list_text list.now) buf.new result × (result ≤ length buf.new) }
+fn put_text(buf: &mut [u8], list: EventList) -> usize
+    requires { 1180000 ≤ length buf.old }
+    ensures { Put buf.old 0 (list_text list.entry.bytes.now) buf.new result × (result ≤ length buf.new) }
 {
-    let nodes = [trailer.nodes as u64];
+    let nodes = [list.trailer.nodes as u64];
     let at = any_text::put_line(buf, 0, b"nodes", &nodes);
-    let next = put_notes(buf, at, trailer.first);
-    put_steps(buf, next, list, trailer)
+    let next = put_notes(buf, at, list.trailer.first);
+    put_steps(buf, next, list)
 }
 
-fn put_shown(list: &[u8], text: &mut [u8], line: &mut [u8]) -> Printed
+fn put_shown(list: &[u8], text: &mut [u8], line: &mut [u8]) -> Result<usize, usize>
     requires { (1180000 ≤ length text.old) × (64 ≤ length line.old) }
     ensures { Prints (shown list.now) text.old line.old text.new line.new result }
 {
-    let trailer = run_lists::read_trailer(list);
-    if trailer.code == step_parts::DONE {
-        let length = put_text(text, list, trailer);
-        return Printed {
-            out: length,
-            line: 0,
-        };
-    }
-    let refusal = any_text::put_refused_line(line, 0, trailer.code as u32);
-    Printed {
-        out: 0,
-        line: refusal,
+    match EventList::read(list) {
+        Ok(events) => Ok(put_text(text, events)),
+        Err(refusal) => Err(any_text::put_refused_line(line, 0, refusal as u32)),
     }
 }
 
-// Puts the text of a list at the front of one buffer, or why it is refused at the front of the other.
-pub fn text_of(list: &[u8], text: &mut [u8; LONGEST_TEXT], line: &mut [u8; LONGEST_LINE]) -> Printed
+// Puts the text of a list at the front of one buffer, or why it is refused at the front of the other, and says how many bytes that is.
+pub fn text_of(
+    list: &[u8],
+    text: &mut [u8; LONGEST_TEXT],
+    line: &mut [u8; LONGEST_LINE],
+) -> Result<usize, usize>
     ensures { Prints (shown list.now) text.old line.old text.new line.new result }
 {
     put_shown(list, text, line)

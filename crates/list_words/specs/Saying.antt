@@ -1,5 +1,5 @@
 -- A line read word by word, and words read one after another. Assumes nothing.
-use Rattle.std.specs.Prelude.{◌≡◌, refl, Bool, true, false, cond, List, [], ◌∷◌, ℕ, suc, ◌-◌, ◌≤◌, ◌<◌, eqb, length, get_or, take, drop}
+use Rattle.std.specs.Prelude.{◌≡◌, refl, Bool, true, false, cond, List, [], Option, Some, None, ◌∷◌, ℕ, suc, ◌-◌, ◌≤◌, ◌<◌, eqb, length, get_or, take, drop}
 use Rattle.std.proofs.Common.{sym, ◌∙◌, arith, drop_of_length-le, drop-cons, take_all}
 use Rattle.std.proofs.Math.Path.{ap}
 use Rattle.std.proofs.Math.Decide.{dec_lt}
@@ -7,43 +7,32 @@ use Rattle.std.proofs.lemmas.Bool.{not-true}
 use Rattle.any_search.specs.Seek.{Sought}
 use Rattle.any_words.specs.Text.{is_blank, cut, pieces, full, words, same}
 use Rattle.any_words.specs.Words.{blank_is, first_piece, only-piece, line-skip, line_word}
-use Rattle.list_words.specs.declared.Byte.{Byte}
-use Rattle.list_words.specs.declared.Byte.TheVariants.{Is, No}
 use Rattle.list_words.specs.declared.Line.TheVariants.{Blank, Nodes, Step, Other}
 use Rattle.list_words.specs.Names.{bytes}
-use Rattle.list_words.specs.Line.{byte_of, kind_named, or_name, kind_said, step, said, of_words, is_hash, uncommented}
-
--- ---- a kind
-
-module _ (word : List ℕ) {b : Byte} (is : b ≡ byte_of word) where
-  pub kind-number : {k : ℕ} → b ≡ Is k → Is k ≡ kind_said word
-  kind-number e = ap (λ (x : Byte). or_name x word) (sym e ∙ is)
-
-  pub kind-name : b ≡ No → kind_named word ≡ kind_said word
-  kind-name e = ap (λ (x : Byte). or_name x word) (sym e ∙ is)
+use Rattle.list_words.specs.Line.{byte_of, kind_said, step, said, of_words, is_hash, uncommented}
 
 -- ---- a word, and a number behind it
 
-module _ (word number : List ℕ) {b : Byte} (is : b ≡ byte_of number) where
-  pub said-bad : b ≡ No → Other ≡ said word (byte_of number)
+module _ (word number : List ℕ) {b : Option ℕ} (is : b ≡ byte_of number) where
+  pub said-bad : b ≡ None → Other ≡ said word (byte_of number)
   said-bad e = ap (said word) (sym e ∙ is)
 
-  module _ {n : ℕ} (e : b ≡ Is n) {s : Bool} (test : s ≡ same word (bytes "nodes")) where
+  module _ {n : ℕ} (e : b ≡ Some n) {s : Bool} (test : s ≡ same word (bytes "nodes")) where
     here : cond s (Nodes n) (step (kind_said word) n) ≡ said word (byte_of number)
     here = ap (λ (c : Bool). cond c (Nodes n) (step (kind_said word) n)) test ∙ ap (said word) (sym e ∙ is)
 
     pub said-nodes : s ≡ true → Nodes n ≡ said word (byte_of number)
     said-nodes t = ap (λ (c : Bool). cond c (Nodes n) (step (kind_said word) n)) (sym t) ∙ here
 
-    module _ (t : s ≡ false) {o : Byte} (kind : o ≡ kind_said word) where
+    module _ (t : s ≡ false) {o : Option ℕ} (kind : o ≡ kind_said word) where
       with-kind : step o n ≡ said word (byte_of number)
-      with-kind = ap (λ (x : Byte). step x n) kind ∙ ap (λ (c : Bool). cond c (Nodes n) (step (kind_said word) n)) (sym t) ∙ here
+      with-kind = ap (λ (x : Option ℕ). step x n) kind ∙ ap (λ (c : Bool). cond c (Nodes n) (step (kind_said word) n)) (sym t) ∙ here
 
-      pub said-other : o ≡ No → Other ≡ said word (byte_of number)
-      said-other i = ap (λ (x : Byte). step x n) (sym i) ∙ with-kind
+      pub said-other : o ≡ None → Other ≡ said word (byte_of number)
+      said-other i = ap (λ (x : Option ℕ). step x n) (sym i) ∙ with-kind
 
-      pub said-step : {k : ℕ} → o ≡ Is k → Step k n ≡ said word (byte_of number)
-      said-step i = ap (λ (x : Byte). step x n) (sym i) ∙ with-kind
+      pub said-step : {k : ℕ} → o ≡ Some k → Step k n ≡ said word (byte_of number)
+      said-step i = ap (λ (x : Option ℕ). step x n) (sym i) ∙ with-kind
 
 -- ---- two words
 

@@ -1,14 +1,14 @@
 -- The steps that are handed in, one after another as a loop reads them. Assumes nothing.
-use Rattle.std.specs.Prelude.{◌≡◌, Bool, get_or, drop}
+use Rattle.std.specs.Prelude.{◌≡◌, Bool, get_or, min}
 use Rattle.std.proofs.Math.Path.{refl, ap, ap₂}
-use Rattle.std.proofs.Common.{sym, ◌∙◌, le_of_suc-le-suc, drop_of_length-le}
+use Rattle.std.proofs.Common.{sym, ◌∙◌}
 use Rattle.std.proofs.Math.Bool.{true, false, and-false}
 use Rattle.std.proofs.Math.Option.{Option, none, some}
 use mathlib.Core.List.{List, [], ◌∷◌, ◌++◌}
 use Prim.Native.Nat.{ℕ, zero, suc, ◌+◌, ◌*◌, ◌/◌, ◌%◌, ◌≤◌, ◌<◌}
 use native.Mathlib.Omega.{arith}
 use Rattle.std.proofs.Math.Dec.{leb}
-use Rattle.std.proofs.Math.ListN.{length, length-append, get_or-eq_default}
+use Rattle.std.proofs.Math.ListN.{length, length-append}
 use borrow.Author.Tests.{le-leb, lt-leb, leb-true, ne_eqb}
 use Rattle.rules.specs.Limits.{most_nodes}
 use Rattle.rules.specs.Codes.{bad_length, bad_node_count, out_too_short}
@@ -26,65 +26,38 @@ use Rattle.run_lists.specs.Written.{over-more}
 use Rattle.run_lists.specs.Listed.{flat, trailer_bytes, list_of}
 use Rattle.list_write.specs.Write.{missing, steps_in, or_else, fault_of, first_fault, length_of, write_refusal, written, wrote, return_of}
 
--- The step at a place.
-abbrev pub step_from : List ℕ → ℕ → Event
-step_from steps at = record { kind = get_or steps at 0; node = get_or steps (at + 1) missing }
-
--- A whole step, and one that is cut short.
-inside : (l : List ℕ) (i d e : ℕ) → i < length l → get_or l i d ≡ get_or l i e
-inside [] i d e h = absurd (omega arith)
-inside (x ∷ l) zero d e h = refl
-inside (x ∷ l) (suc i) d e h = inside l i d e (le_of_suc-le-suc h)
-
-module _ (nodes : ℕ) (steps : List ℕ) (at : ℕ) where
-  pub fault-whole : at + 1 < length steps → fault_of nodes (record { kind = get_or steps at 0; node = get_or steps (at + 1) 0 }) ≡ fault_of nodes (step_from steps at)
-  fault-whole h = ap (λ (n : ℕ). fault_of nodes (record { kind = get_or steps at 0; node = n })) (inside steps (at + 1) 0 missing h)
-
-  pub fault-cut : length steps ≤ at + 1 → fault_of nodes (record { kind = get_or steps at 0; node = missing }) ≡ fault_of nodes (step_from steps at)
-  fault-cut h = ap (λ (n : ℕ). fault_of nodes (record { kind = get_or steps at 0; node = n })) (sym (get_or-eq_default steps missing h))
-
-steps-more : (steps : List ℕ) (at : ℕ) → at < length steps → steps_in (drop at steps) ≡ step_from steps at ∷ steps_in (drop (at + 2) steps)
-unfolding steps_in
-steps-more [] at h = absurd (omega arith)
-steps-more (k ∷ []) zero h = refl
-steps-more (k ∷ n ∷ l) zero h = refl
-steps-more (k ∷ l) (suc at) h =
-    let one : suc at + 1 ≡ suc (at + 1) = omega arith in
-    let two : suc at + 2 ≡ suc (at + 2) = omega arith in
-    rw (one, two) (steps-more l at (le_of_suc-le-suc h))
-
 -- ---- the first fault
 
--- No step before a place is bad.
-pub record Passing (nodes : ℕ) (steps : List ℕ) (at : ℕ) : Type 0 where
-  pub place : at ≤ length steps + 1
-  pub left : first_fault nodes (steps_in (drop at steps)) ≡ first_fault nodes (steps_in steps)
+-- The step that its bytes say: two, or one where the node is missing.
+abbrev pub step_in : List ℕ → Event
+step_in step = record { kind = get_or step 0 0; node = get_or step 1 missing }
 
-pub passing-starts : (nodes : ℕ) (steps : List ℕ) → Passing nodes steps 0
-passing-starts nodes steps = record { place = omega arith; left = refl }
+-- The bytes of the first step, and those of the others: its fault goes first.
+pub first_fault-step : (nodes : ℕ) (step rest : List ℕ) → length step ≡ min 2 (length (step ++ rest)) → 0 < length (step ++ rest)
+    → first_fault nodes (steps_in (step ++ rest)) ≡ or_else (fault_of nodes (step_in step)) (first_fault nodes (steps_in rest))
+unfolding steps_in first_fault
+first_fault-step nodes [] rest s h = absurd (omega arith)
+first_fault-step nodes (k ∷ []) [] s h = refl
+first_fault-step nodes (k ∷ []) (x ∷ rest) s h = absurd (omega arith)
+first_fault-step nodes (k ∷ n ∷ []) rest s h = refl
+first_fault-step nodes (k ∷ n ∷ m ∷ l) rest s h = absurd (omega arith)
 
-module _ {nodes : ℕ} {steps : List ℕ} {at : ℕ} (p : Passing nodes steps at) where
-  pub passing-ends : length steps ≤ at → 0 ≡ first_fault nodes (steps_in steps)
-  unfolding steps_in first_fault
-  passing-ends h = ap (λ (l : List ℕ). first_fault nodes (steps_in l)) (sym (drop_of_length-le steps h)) ∙ p.left
+-- What a loop knows that has passed no bad step, and reads the next.
+module _ (nodes : ℕ) (steps all step rest : List ℕ) (parts : all ≡ step ++ rest) (size : length step ≡ min 2 (length all)) (some : 0 < length all)
+    (left : first_fault nodes (steps_in all) ≡ first_fault nodes (steps_in steps)) where
+  first-left : or_else (fault_of nodes (step_in step)) (first_fault nodes (steps_in rest)) ≡ first_fault nodes (steps_in steps)
+  first-left =
+      sym (first_fault-step nodes step rest (rw parts at size) (rw parts at some)) ∙ ap (λ (l : List ℕ). first_fault nodes (steps_in l)) (sym parts) ∙ left
 
-  module _ (h : at < length steps) {code : ℕ} (is : code ≡ fault_of nodes (step_from steps at)) where
-    here : or_else code (first_fault nodes (steps_in (drop (at + 2) steps))) ≡ first_fault nodes (steps_in steps)
-    unfolding first_fault
-    here =
-        ap (λ (c : ℕ). or_else c (first_fault nodes (steps_in (drop (at + 2) steps)))) is
-        ∙ ap (first_fault nodes) (sym (steps-more steps at h))
-        ∙ p.left
+  pub good-step : 0 ≡ fault_of nodes (step_in step) → first_fault nodes (steps_in rest) ≡ first_fault nodes (steps_in steps)
+  good-step z = ap (λ (c : ℕ). or_else c (first_fault nodes (steps_in rest))) z ∙ first-left
 
-    pub passing-stops : 0 < code → code ≡ first_fault nodes (steps_in steps)
-    passing-stops z = go code z here
-      where
-        go : (c : ℕ) → 0 < c → or_else c (first_fault nodes (steps_in (drop (at + 2) steps))) ≡ first_fault nodes (steps_in steps) → c ≡ first_fault nodes (steps_in steps)
-        go zero z e = absurd (omega arith)
-        go (suc c) z e = e
-
-    pub passing-more : code ≡ 0 → Passing nodes steps (at + 2)
-    passing-more z = record { place = omega arith; left = ap (λ (c : ℕ). or_else c (first_fault nodes (steps_in (drop (at + 2) steps)))) (sym z) ∙ here }
+  pub bad-step : {code : ℕ} → code ≡ fault_of nodes (step_in step) → 0 < code → code ≡ first_fault nodes (steps_in steps)
+  bad-step {code} e z = go code z (ap (λ (c : ℕ). or_else c (first_fault nodes (steps_in rest))) e ∙ first-left)
+    where
+      go : (c : ℕ) → 0 < c → or_else c (first_fault nodes (steps_in rest)) ≡ first_fault nodes (steps_in steps) → c ≡ first_fault nodes (steps_in steps)
+      go zero z e = absurd (omega arith)
+      go (suc c) z e = e
 
 -- ---- a node that is missing
 

@@ -1,11 +1,12 @@
 // The writer of event lists: steps and a node count in, a list with its trailer out.
 #![tactic(auto)]
 
-ghost use Rattle.std.specs.Prelude.{◌≡◌, ◌<◌, length};
+ghost use Rattle.std.specs.Prelude.{◌≡◌, IfOk};
+ghost use Rattle.step_parts.specs.Answers.{code_of};
 ghost use Rattle.list_write.specs.Write.{steps_in, fault_of, first_fault, write_refusal, wrote, return_of};
-ghost use Rattle.list_write.specs.Steps.{step_from};
 
 use step_asks::Ask;
+use step_parts::Refusal;
 
 // In place of a node that is missing. There is no such node.
 const MISSING: u8 = 255;
@@ -13,91 +14,55 @@ const MISSING: u8 = 255;
 // What is returned to a C host for a list without steps, less its length.
 const WROTE: u32 = 256;
 
-// The code, and how many bytes the list has: none where it is refused.
-#[derive(Clone, Copy)]
-pub struct Wrote {
-    pub code: u8,
-    pub length: usize,
-}
-
-// Why a step is bad: there is no such kind, or it does not call for this node. Done for a good one.
-pub fn fault_of(nodes: u8, kind: u8, node: u8) -> u8
-    ensures { result ≡ fault_of nodes (record { kind = kind; node = node }) }
+// Whether a step is good, or why not: there is no such kind, or it does not call for this node.
+pub fn check_step(nodes: u8, kind: u8, node: u8) -> Result<(), Refusal>
+    ensures { code_of result ≡ fault_of nodes (record { kind = kind; node = node }) }
 {
-    step_asks::existence_code(Ask {
+    step_asks::check_exists(Ask {
         count: nodes,
         running: true,
-        kind: kind,
-        node: node,
+        kind,
+        node,
     })
 }
 
-// The same for the step at a place.
-fn fault_at(nodes: u8, steps: &[u8], at: usize) -> u8
-    requires { at < length steps.now }
-    ensures { result ≡ fault_of nodes (step_from steps.now at) }
+// Whether every step is good, or why the first bad one is not.
+fn check_steps(nodes: u8, steps: &[u8]) -> Result<(), Refusal>
+    ensures { code_of result ≡ first_fault nodes (steps_in steps.now) }
 {
-    if at + 1 < steps.len() {
-        return fault_of(nodes, steps[at], steps[at + 1]);
+    for step in steps.chunks(2) {
+        check_step(nodes, step[0], step.get(1).copied().unwrap_or(MISSING))?;
     }
-    fault_of(nodes, steps[at], MISSING)
+    Ok(())
 }
 
-// Why the first bad step is bad.
-fn first_fault(nodes: u8, steps: &[u8]) -> u8
-    ensures { result ≡ first_fault nodes (steps_in steps.now) }
-{
-    let mut at: usize = 0;
-    while at < steps.len() {
-        let code = fault_at(nodes, steps, at);
-        if code != step_parts::DONE {
-            return code;
-        }
-        at += 2;
-    }
-    step_parts::DONE
-}
-
-// Why the list is refused, with so much room for it.
-fn write_refusal(nodes: u8, steps: &[u8], room: usize) -> u8
-    ensures { result ≡ write_refusal nodes (steps_in steps.now) room }
+// Whether the list can be written, with so much room for it, or why not.
+fn check_list(nodes: u8, steps: &[u8], room: usize) -> Result<(), Refusal>
+    ensures { code_of result ≡ write_refusal nodes (steps_in steps.now) room }
 {
     if !step_parts::is_node(step_parts::MOST_NODES, nodes) {
-        return step_parts::BAD_NODE_COUNT;
+        return Err(Refusal::BadNodeCount);
     }
-    let code = first_fault(nodes, steps);
-    if code != step_parts::DONE {
-        return code;
-    }
+    check_steps(nodes, steps)?;
     if 2 * run_lists::MOST_RECORDS < steps.len() {
-        return step_parts::BAD_LENGTH;
+        return Err(Refusal::BadLength);
     }
     if room < steps.len() + run_lists::TRAILER_LENGTH {
-        return step_parts::OUT_TOO_SHORT;
+        return Err(Refusal::OutTooShort);
     }
-    step_parts::DONE
+    Ok(())
 }
 
-// Writes the list at the front of the buffer.
-pub fn write(nodes: u8, steps: &[u8], out: &mut [u8]) -> Wrote
-    ensures { (result.code ≡ (wrote nodes steps.now out.old).code)
-        × (result.length ≡ (wrote nodes steps.now out.old).length)
-        × (out.new ≡ (wrote nodes steps.now out.old).out) }
+// Writes the list at the front of the buffer, and says how many bytes it has. A refusal leaves every byte of the buffer.
+pub fn write(nodes: u8, steps: &[u8], out: &mut [u8]) -> Result<usize, Refusal>
+    ensures code { code_of result ≡ (wrote nodes steps.now out.old).code }
+    ensures length { IfOk result (λ n. n ≡ (wrote nodes steps.now out.old).length) }
+    ensures out { out.new ≡ (wrote nodes steps.now out.old).out }
 {
-    let code = write_refusal(nodes, steps, out.len());
-    if code != step_parts::DONE {
-        return Wrote {
-            code: code,
-            length: 0,
-        };
-    }
+    check_list(nodes, steps, out.len())?;
     let at = any_text::put_word(out, 0, steps);
     let trailer = run_lists::trailer_bytes(steps.len() / 2, nodes);
-    let length = any_text::put_word(out, at, &trailer);
-    Wrote {
-        code: code,
-        length: length,
-    }
+    Ok(any_text::put_word(out, at, &trailer))
 }
 
 // The same for a C host: 256 plus the length, or the refusal.
@@ -105,12 +70,11 @@ pub fn write_call(nodes: u32, steps: &[u8], out: &mut [u8]) -> u32
     ensures { (result ≡ return_of (wrote nodes steps.now out.old))
         × (out.new ≡ (wrote nodes steps.now out.old).out) }
 {
-    if nodes > step_parts::MOST_NODES as u32 {
-        return step_parts::BAD_NODE_COUNT as u32;
+    let Ok(count) = u8::try_from(nodes) else {
+        return Refusal::BadNodeCount as u32;
+    };
+    match write(count, steps, out) {
+        Ok(length) => WROTE + length as u32,
+        Err(refusal) => refusal as u32,
     }
-    let wrote = write(nodes as u8, steps, out);
-    if wrote.code != step_parts::DONE {
-        return wrote.code as u32;
-    }
-    WROTE + wrote.length as u32
 }

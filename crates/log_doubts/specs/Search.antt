@@ -6,35 +6,21 @@ use Prim.Native.Nat.{ℕ, zero, suc, ◌+◌, ◌*◌, ◌-◌, ◌≤◌, ◌<�
 use native.Mathlib.Omega.{arith}
 use Rattle.std.proofs.Math.Decide.{dec_lt}
 use Rattle.rules.specs.Step.{Event}
-use Rattle.any_list.specs.Tables.{table-get}
 use Rattle.merge_verdict.specs.Pairs.{kept, only}
 use Rattle.merge_letters.specs.Letters.{letter_of}
 use Rattle.any_search.specs.Places.{from}
-use Rattle.any_search.specs.Seek.{Sought}
+use Rattle.log_read.specs.declared.Record.{Record}
 use Rattle.log_doubts.specs.declared.Pair.{Pair}
-use Rattle.log_records.specs.Rows.{no_row, row_in, rows_in}
+use Rattle.log_records.specs.Rows.{row_at, rows_of}
+use Rattle.log_records.specs.Places.{rows-get}
 use Rattle.log_doubts.specs.Doubts.{in_doubt, doubt_at, pairs_with, pairs}
 
 -- ---- two records
 
-pub doubt-in-rows : (count bound : ℕ) (l : List ℕ) (n x y : ℕ) → x < n → y < n → in_doubt count bound (row_in l x) (row_in l y) ≡ doubt_at count bound (rows_in l n) x y
-doubt-in-rows count bound l n x y h k = sym (ap₂ (in_doubt count bound) (table-get n (row_in l) x no_row h) (table-get n (row_in l) y no_row k))
+pub doubt-in-rows : (count bound : ℕ) (l : List Record) (x y : ℕ) → in_doubt count bound (row_at l x) (row_at l y) ≡ doubt_at count bound (rows_of l) x y
+doubt-in-rows count bound l x y = sym (ap₂ (in_doubt count bound) (rows-get l x) (rows-get l y))
 
 -- ---- places that pass a test
-
-only-hit : (test : ℕ → Bool) (end r a k : ℕ) → a + k ≡ end → Sought test a end r → r < end → only test (from a k) ≡ r ∷ only test (from (suc r) (end - suc r))
-only-hit test end r a zero i s h = absurd (let l = s.low in omega arith)
-only-hit test end r a (suc k) i s h = go (dec_lt a r) (only-hit test end r (suc a) k (omega arith))
-  where
-    go : Dec (a < r) → (Sought test (suc a) end r → r < end → only test (from (suc a) k) ≡ r ∷ only test (from (suc r) (end - suc r)))
-        → kept (test a) a (only test (from (suc a) k)) ≡ r ∷ only test (from (suc r) (end - suc r))
-    go (yes b) more =
-        rw (s.none a (omega arith) b) (more (record { low = b; high = s.high; none = λ j l u. s.none j (omega arith) u; hit = s.hit }) h)
-    go (no b) more =
-        let same : a ≡ r = (let l = s.low in omega arith) in
-        let rest : k ≡ end - suc r = omega arith in
-        ap (λ (x : Bool). kept x a (only test (from (suc a) k))) (ap test same ∙ s.hit h)
-        ∙ ap₂ (λ (x y : ℕ). x ∷ only test (from (suc x) y)) same rest
 
 only_none : (test : ℕ → Bool) (end a k : ℕ) → a + k ≡ end → ((j : ℕ) → a ≤ j → j < end → test j ≡ false) → only test (from a k) ≡ []
 only_none test end a zero i f = refl
@@ -42,70 +28,34 @@ only_none test end a (suc k) i f = rw (f a (omega arith) (omega arith)) (only_no
 
 -- ---- pairs
 
-module _ (test : ℕ → ℕ → Bool) (n : ℕ) where
-  -- The pairs from x and y on.
-  abbrev pub pairs_from : ℕ → ℕ → List Pair
-  pairs_from x y = pairs_with test n x (from y (n - y)) ++ pairs test n (from (suc x) (n - suc x))
+module _ (test : ℕ → ℕ → Bool) (n x : ℕ) where
+  -- The pairs of x from y on.
+  abbrev pub pairs_at : ℕ → List Pair
+  pairs_at y = pairs_with test n x (from y (n - y))
 
-  pairs-at : (x k : ℕ) → x + k ≡ n → pairs test n (from x k) ≡ pairs_from x (suc x)
+  at-place : (y : ℕ) → y < n → from y (n - y) ≡ y ∷ from (suc y) (n - suc y)
+  at-place y h = let rest : n - y ≡ suc (n - suc y) = omega arith in ap (from y) rest
+
+  pub pair-here : {y : ℕ} → y < n → test x y ≡ true → pairs_at y ≡ record { x = x; y = y } ∷ pairs_at (y + 1)
+  pair-here {y} h e = rw (add-one y) (ap (λ (ys : List ℕ). pairs_with test n x ys) (at-place y h) ∙ ap (λ (b : Bool). map (λ y. record { x = x; y = y }) (kept b y (only (test x) (from (suc y) (n - suc y))))) e)
+
+  pub pair-none : {y : ℕ} → y < n → test x y ≡ false → pairs_at y ≡ pairs_at (y + 1)
+  pair-none {y} h e = rw (add-one y) (ap (λ (ys : List ℕ). pairs_with test n x ys) (at-place y h) ∙ ap (λ (b : Bool). map (λ y. record { x = x; y = y }) (kept b y (only (test x) (from (suc y) (n - suc y))))) e)
+
+  pub pairs-over : {y : ℕ} → ((j : ℕ) → y ≤ j → j < n → test x j ≡ false) → pairs_at y ≡ []
+  pairs-over {y} f = go (dec_lt y n)
+    where
+      go : Dec (y < n) → pairs_at y ≡ []
+      go (yes h) = ap (λ (ys : List ℕ). map (λ z. record { x = x; y = z }) ys) (only_none (test x) n y (n - y) (omega arith) f)
+      go (no h) = let none : n - y ≡ 0 = omega arith in rw none
+
+  pub pairs-first : x < n → pairs test n (from x (n - x)) ≡ pairs_at (x + 1) ++ pairs test n (from (x + 1) (n - (x + 1)))
   unfolding pairs
-  pairs-at x zero i = let none : n - suc x ≡ 0 = omega arith in rw none
-  pairs-at x (suc k) i = let rest : k ≡ n - suc x = omega arith in ap (λ (m : ℕ). pairs_with test n x (from (suc x) (n - suc x)) ++ pairs test n (from (suc x) m)) rest
+  pairs-first h = let rest : n - x ≡ suc (n - suc x) = omega arith in rw (add-one x) (ap (λ (m : ℕ). pairs test n (from x m)) rest)
 
-  pub pairs_start : pairs test n (from 0 n) ≡ pairs_from 0 1
-  pairs_start = pairs-at 0 n (omega arith)
-
-  pub pairs_end : (x y : ℕ) → n ≤ x → x < y → pairs_from x y ≡ []
+  pub pairs-end : n - x ≡ 0 → pairs test n (from x (n - x)) ≡ []
   unfolding pairs
-  pairs_end x y h k = let none : n - suc x ≡ 0 = omega arith in let none' : n - y ≡ 0 = omega arith in rw (none, none')
-
-  module _ {x y r : ℕ} (k : y ≤ n) (s : Sought (test x) y n r) where
-    pub pairs-hit : r < n → pairs_from x y ≡ record { x = x; y = r } ∷ pairs_from x (r + 1)
-    pairs-hit h = rw (add-one r) (ap (λ (ys : List ℕ). map (λ y. record { x = x; y = y }) ys ++ pairs test n (from (suc x) (n - suc x)))
-        (only-hit (test x) n r y (n - y) (omega arith) s h))
-
-    pub pairs-none : x < n → n ≤ r → pairs_from x y ≡ pairs_from (x + 1) (x + 1 + 1)
-    pairs-none l h =
-        let one : x + 1 ≡ suc x = omega arith in
-        let two : x + 1 + 1 ≡ suc (suc x) = omega arith in
-        ap (λ (ys : List ℕ). map (λ y. record { x = x; y = y }) ys ++ pairs test n (from (suc x) (n - suc x)))
-        (only_none (test x) n y (n - y) (omega arith) (λ j a b. s.none j a (omega arith)))
-        ∙ pairs-at (suc x) (n - suc x) (omega arith)
-        ∙ ap₂ pairs_from (sym one) (sym two)
-
-  -- The first pair from x and y on.
-  pub record Next (x y : ℕ) (r : Pair) : Type 0 where
-    pub order : r.x < r.y
-    pub inside : r.x < n → r.y < n
-    pub first : r.x < n → pairs_from x y ≡ r ∷ pairs_from r.x (r.y + 1)
-    pub none : n ≤ r.x → pairs_from x y ≡ []
-
-  -- A search for it, once it has come to i and j.
-  pub record Reached (x y i j : ℕ) : Type 0 where
-    pub order : i < j
-    pub inside : i < n → j ≤ n
-    pub same : pairs_from x y ≡ pairs_from i j
-
-  module _ {x y i j : ℕ} (g : Reached x y i j) where
-    pub reached-end : n ≤ i → Next x y (record { x = i; y = j })
-    reached-end h = record {
-      order = g.order;
-      inside = λ k. absurd (omega arith);
-      first = λ k. absurd (omega arith);
-      none = λ k. g.same ∙ pairs_end i j h g.order;
-    }
-
-    module _ (h : i < n) {r : ℕ} (s : Sought (test i) j n r) where
-      pub reached-hit : r < n → Next x y (record { x = i; y = r })
-      reached-hit k = record {
-        order = let l = s.low in let o = g.order in omega arith;
-        inside = λ l. k;
-        first = λ l. g.same ∙ pairs-hit (g.inside h) s k;
-        none = λ l. absurd (omega arith);
-      }
-
-      pub reached-more : n ≤ r → Reached x y (i + 1) (i + 1 + 1)
-      reached-more k = record { order = omega arith; inside = λ l. omega arith; same = g.same ∙ pairs-none (g.inside h) s h k }
+  pairs-end e = ap (λ (m : ℕ). pairs test n (from x m)) e
 
 -- ---- letters
 

@@ -1,5 +1,5 @@
 -- One exchange of two records that are in doubt, where the clocks allow it, and what it does to the history. `Allowed` proves what it is.
-use Rattle.std.specs.Prelude.{◌≡◌, Bool, true, false, cond, not, ◌&&◌, List, ℕ, suc, ◌+◌, ◌-◌, ◌<◌, eqb, leb, ltb, length, get_or}
+use Rattle.std.specs.Prelude.{◌≡◌, Bool, true, false, cond, not, ◌&&◌, List, ℕ, suc, ◌+◌, ◌-◌, ◌<◌, eqb, leb, ltb, length, get_or, Option}
 use Rattle.rules.specs.State.{Write}
 use Rattle.rules.specs.Range.{all}
 use Rattle.rules.specs.Step.{step, fresh}
@@ -50,5 +50,5 @@ ExchangeAllowed = (bound : ℕ) (rows : List Row) (up : Bool) (x y : ℕ) → x 
 abbrev pub history_of : ℕ → List Row → List Write
 history_of count rows = (run step (fresh count) (steps_of rows)).state.history
 
-abbrev pub parting_of : ℕ → List Row → Bool → ℕ → ℕ → Parting
+abbrev pub parting_of : ℕ → List Row → Bool → ℕ → ℕ → Option Parting
 parting_of count rows up x y = difference (history_of count rows) (history_of count (exchanged up x y rows))

@@ -7,14 +7,15 @@ use Rattle.any_list.specs.Arrays.{table}
 use Rattle.any_list.specs.Tables.{table-get, table-length}
 use Rattle.any_text.specs.Put.{Put}
 use Rattle.any_text.specs.Puts.{put-none, put_then}
-use Rattle.log_records.specs.Rows.{row_in}
+use Rattle.log_read.specs.declared.Record.{Record}
+use Rattle.log_records.specs.Rows.{row_at}
 use Rattle.log_exchange.specs.Exchange.{moved}
 use Rattle.run_lists.specs.Listed.{flat, trailer_bytes, list_of}
 use Rattle.run_lists.specs.Made.{no_step, flat-both}
 
 -- The step at place i of the exchanged merge.
-abbrev pub step_at : List ℕ → Bool → ℕ → ℕ → ℕ → Event
-step_at l up x y i = (row_in l (moved up x y i)).logged.event
+abbrev pub step_at : List Record → Bool → ℕ → ℕ → ℕ → Event
+step_at l up x y i = (row_at l (moved up x y i)).logged.event
 
 -- The first i of n steps are put down.
 pub record Stepped (f : ℕ → Event) (n : ℕ) (before after : List ℕ) (at i : ℕ) : Type 0 where

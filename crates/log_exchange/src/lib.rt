@@ -1,170 +1,150 @@
 // One exchange of two records that are in doubt, where the clocks allow it, and what it does to the history.
 #![tactic(auto)]
 
-ghost use Rattle.std.specs.Prelude.{◌≡◌, true, ℕ, ◌+◌, ◌*◌, ◌-◌, ◌≤◌, ◌<◌, length, get_or};
-ghost use Rattle.rules.specs.Range.{all};
-ghost use Rattle.any_search.specs.Places.{from};
+ghost use Rattle.std.specs.Prelude.{◌≡◌, ℕ, ◌+◌, ◌*◌, ◌≤◌, ◌<◌, length};
 ghost use Rattle.any_list.specs.Arrays.{table};
 ghost use Rattle.any_text.specs.Put.{Put};
 ghost use Rattle.rules_laws.specs.All.{All};
 ghost use Rattle.run.specs.Ran.{history_room};
 ghost use Rattle.run_difference.specs.Runs.{Written};
-ghost use Rattle.log_records.specs.Rows.{no_row, row_in, rows_in, steps_of};
+ghost use Rattle.log_read.specs.Log.{row_of};
+ghost use Rattle.log_records.specs.Rows.{rows_of, steps_of};
 ghost use Rattle.log_exchange.specs.Exchange.{moved, may_pass, allowed, parting_of};
-ghost use Rattle.run_lists.specs.Listed.{flat, list_of};
+ghost use Rattle.run_lists.specs.Listed.{list_of};
 ghost use Rattle.run_lists.specs.Made.{Small};
 ghost use Rattle.log_exchange.specs.Filling.{step_at};
 ghost use Rattle.log_exchange.specs.Ran.{AtHand};
 
-use log_read::{AT_KIND, AT_LOG, AT_NODE, AT_TIME, ROW};
+use log_read::Record;
+use log_records::Merge;
 use run_difference::Parting;
 
-// The record that stands at place i of the exchanged merge.
-fn source(up: bool, x: usize, y: usize, i: usize) -> usize
-    requires { i < 32768 }
-    ensures { result ≡ moved up x y i }
-{
-    if i < x {
-        return i;
-    }
-    if up {
-        if i == x {
-            return y;
-        }
-        if i <= y {
-            return i - 1;
-        }
-        return i;
-    }
-    if i < y {
-        return i + 1;
-    }
-    if i == y {
-        return x;
-    }
-    i
+// Of the records at places x and y, the second is moved up to the first, or the first down to the second.
+#[derive(Clone, Copy)]
+pub struct Exchange {
+    // The rule `moved` takes a Bool.
+    pub up: bool,
+    pub x: usize,
+    pub y: usize,
 }
 
-// The records of the exchanged merge as bytes, kind and node of each.
-fn put_records(list: &mut [u8], rows: &[u64], n: usize, up: bool, x: usize, y: usize) -> usize
-    requires { (n < 32768) × (5 * n ≤ length rows.now) × (2 * n ≤ length list.old) × ((i : ℕ) → i < n → moved up x y i < n) }
-    ensures { Put list.old 0 (flat (table n (step_at rows.now up x y))) list.new result × (result ≡ 2 * n) }
-{
-    let mut at: usize = 0;
-    let mut i: usize = 0;
-    while i < n {
-        let from = ROW * source(up, x, y, i);
-        let bytes = [
-            (rows[from + AT_KIND] % 256) as u8,
-            (rows[from + AT_NODE] % 256) as u8,
-        ];
-        at = any_text::put_word(list, at, &bytes);
-        i += 1;
+impl Exchange {
+    // The record that stands at place i of the exchanged merge.
+    fn source(self, i: usize) -> usize
+        requires { i < 32768 }
+        ensures { result ≡ moved self.up self.x self.y i }
+    {
+        let Exchange { up, x, y } = self;
+        if i < x {
+            i
+        } else if up {
+            if i == x {
+                y
+            } else if i <= y {
+                i - 1
+            } else {
+                i
+            }
+        } else if i < y {
+            i + 1
+        } else if i == y {
+            x
+        } else {
+            i
+        }
     }
-    at
 }
 
 // The exchanged merge as an event list.
-fn put_list(
-    list: &mut [u8],
-    rows: &[u64],
-    n: usize,
-    nodes: u8,
-    up: bool,
-    x: usize,
-    y: usize,
-) -> usize
-    requires { (n ≤ 32762) × (5 * n ≤ length rows.now) × (2 * n + 12 ≤ length list.old) × ((i : ℕ) → i < n → moved up x y i < n) }
-    ensures { Put list.old 0 (list_of nodes (table n (step_at rows.now up x y))) list.new result × (result ≡ 2 * n + 12) }
+fn put_list(list: &mut [u8], merge: &Merge, exchange: Exchange) -> usize
+    requires { (length merge.now.records.now ≤ 32762) × (2 * length merge.now.records.now + 12 ≤ length list.old)
+        × ((i : ℕ) → i < length merge.now.records.now → moved exchange.up exchange.x exchange.y i < length merge.now.records.now) }
+    ensures { Put list.old 0 (list_of merge.now.nodes (table (length merge.now.records.now) (step_at merge.now.records.now exchange.up exchange.x exchange.y))) list.new result
+        × (result ≡ 2 * length merge.now.records.now + 12) }
 {
-    let at = put_records(list, rows, n, up, x, y);
-    let trailer = run_lists::trailer_bytes(n, nodes);
+    let records = merge.records;
+    let mut at = 0;
+    for i in 0..records.len() {
+        let record = &records[exchange.source(i)];
+        let bytes = [(record.kind % 256) as u8, (record.node % 256) as u8];
+        at = any_text::put_word(list, at, &bytes);
+    }
+    let trailer = run_lists::trailer_bytes(records.len(), merge.nodes);
     any_text::put_word(list, at, &trailer)
 }
 
 // Runs it. Gives the number of writes.
-fn run_moved(rows: &[u64], n: usize, nodes: u8, up: bool, x: usize, y: usize, out: &mut [u8]) -> u32
-    requires { (n ≤ 32762) × (1 ≤ nodes) × (nodes ≤ 8) × (5 * n ≤ length rows.now) × ((i : ℕ) → i < n → moved up x y i < n) × (n + history_room ≤ length out.old) }
-    ensures { Written (list_of nodes (table n (step_at rows.now up x y))) n out.new result }
+fn run_moved(merge: &Merge, exchange: Exchange, out: &mut [u8]) -> u32
+    requires { (length merge.now.records.now ≤ 32762) × (1 ≤ merge.now.nodes) × (merge.now.nodes ≤ 8)
+        × ((i : ℕ) → i < length merge.now.records.now → moved exchange.up exchange.x exchange.y i < length merge.now.records.now)
+        × (length merge.now.records.now + history_room ≤ length out.old) }
+    ensures { Written (list_of merge.now.nodes (table (length merge.now.records.now) (step_at merge.now.records.now exchange.up exchange.x exchange.y))) (length merge.now.records.now) out.new result }
 {
     let mut list = [0u8; run_lists::LONGEST];
-    let length = put_list(&mut list, rows, n, nodes, up, x, y);
+    let length = put_list(&mut list, merge, exchange);
     run::run(&list[..length], out) - run::NO_WRITES
 }
 
 // Runs the merge at hand. Gives the number of writes, and leaves answers and history in the buffer. No record is moved by an exchange behind the last.
-pub fn run_at_hand(rows: &[u64], n: usize, nodes: u8, out: &mut [u8]) -> u32
-    requires { (n ≤ 32762) × (1 ≤ nodes) × (nodes ≤ 8) × (5 * n ≤ length rows.now) × (n + history_room ≤ length out.old) }
-    ensures { AtHand nodes rows.now n out.new result }
+pub fn run_at_hand(merge: &Merge, out: &mut [u8]) -> u32
+    requires { (length merge.now.records.now ≤ 32762) × (1 ≤ merge.now.nodes) × (merge.now.nodes ≤ 8) × (length merge.now.records.now + history_room ≤ length out.old) }
+    ensures { AtHand merge.now.nodes merge.now.records.now out.new result }
 {
-    run_moved(rows, n, nodes, true, n, n, out)
+    let behind = merge.records.len();
+    let none = Exchange {
+        up: true,
+        x: behind,
+        y: behind,
+    };
+    run_moved(merge, none, out)
 }
 
 // Where the histories of the merge at hand, which was run, and of the exchanged one first differ.
-pub fn parting(
-    rows: &[u64],
-    n: usize,
-    nodes: u8,
-    up: bool,
-    x: usize,
-    y: usize,
-    mine: &[u8],
-    writes: u32,
-) -> Parting
-    requires { (n ≤ 32762) × (1 ≤ nodes) × (nodes ≤ 8) × (5 * n ≤ length rows.now) × (x < y) × (y < n) × All Small (steps_of (rows_in rows.now n))
-        × AtHand nodes rows.now n mine.now writes }
-    ensures { result ≡ parting_of nodes (rows_in rows.now n) up x y }
+pub fn parting(merge: &Merge, exchange: Exchange, mine: &[u8], writes: u32) -> Option<Parting>
+    requires { (length merge.now.records.now ≤ 32762) × (1 ≤ merge.now.nodes) × (merge.now.nodes ≤ 8) × (exchange.x < exchange.y) × (exchange.y < length merge.now.records.now)
+        × All Small (steps_of (rows_of merge.now.records.now)) × AtHand merge.now.nodes merge.now.records.now mine.now writes }
+    ensures { result ≡ parting_of merge.now.nodes (rows_of merge.now.records.now) exchange.up exchange.x exchange.y }
 {
+    let answers = merge.records.len();
     let mut theirs = [0u8; run::LONGEST_OUT];
-    let others = run_moved(rows, n, nodes, up, x, y, &mut theirs);
-    run_difference::difference(&mine[n..], writes as usize, &theirs[n..], others as usize)
+    let others = run_moved(merge, exchange, &mut theirs);
+    run_difference::difference(
+        &mine[answers..],
+        writes as usize,
+        &theirs[answers..],
+        others as usize,
+    )
 }
 
 // ---- whether the clocks allow it
 
-// Whether record m may pass record z, upwards or downwards.
-fn passes(rows: &[u64], bound: u64, up: bool, m: usize, z: usize) -> bool
-    requires { (5 * m + 5 ≤ length rows.now) × (5 * z + 5 ≤ length rows.now) }
-    ensures { result ≡ may_pass bound up (row_in rows.now m) (row_in rows.now z) }
+// Whether a record that is moved, upwards or downwards, may pass another.
+fn passes(passing: &Record, passed: &Record, up: bool, bound: u64) -> bool
+    ensures { result ≡ may_pass bound up (row_of passing.now) (row_of passed.now) }
 {
-    let other = rows[ROW * z + AT_LOG] != rows[ROW * m + AT_LOG];
-    if up {
-        return other
-            & log_records::may_precede(rows[ROW * m + AT_TIME], rows[ROW * z + AT_TIME], bound);
-    }
-    other & log_records::may_precede(rows[ROW * z + AT_TIME], rows[ROW * m + AT_TIME], bound)
-}
-
-// Whether record m may pass all from a start to an end.
-fn passes_all(
-    rows: &[u64],
-    n: usize,
-    bound: u64,
-    up: bool,
-    m: usize,
-    start: usize,
-    end: usize,
-) -> bool
-    requires { (5 * n ≤ length rows.now) × (m < n) × (start ≤ end) × (end ≤ n) }
-    ensures { result ≡ all (λ z. may_pass bound up (get_or (rows_in rows.now n) m no_row) (get_or (rows_in rows.now n) z no_row)) (from start (end - start)) }
-{
-    let mut z = start;
-    while z < end {
-        if !passes(rows, bound, up, m, z) {
-            return false;
-        }
-        z += 1;
-    }
-    true
+    let (early, late) = if up {
+        (passing, passed)
+    } else {
+        (passed, passing)
+    };
+    passed.log != passing.log && log_records::may_precede(early.time, late.time, bound)
 }
 
 // Whether the clocks allow the exchange.
-pub fn allowed(rows: &[u64], n: usize, bound: u64, up: bool, x: usize, y: usize) -> bool
-    requires { (5 * n ≤ length rows.now) × (x < y) × (y < n) }
-    ensures { result ≡ allowed bound (rows_in rows.now n) up x y }
+pub fn allowed(merge: &Merge, exchange: Exchange) -> bool
+    requires { (exchange.x < exchange.y) × (exchange.y < length merge.now.records.now) }
+    ensures { result ≡ allowed merge.now.bound (rows_of merge.now.records.now) exchange.up exchange.x exchange.y }
 {
+    let Exchange { up, x, y } = exchange;
+    let records = merge.records;
+    let bound = merge.bound;
     if up {
-        return passes_all(rows, n, bound, up, y, x, y);
+        records[x..y]
+            .iter()
+            .all(|passed| passes(&records[y], passed, true, bound))
+    } else {
+        records[x + 1..y + 1]
+            .iter()
+            .all(|passed| passes(&records[x], passed, false, bound))
     }
-    passes_all(rows, n, bound, up, x, x + 1, y + 1)
 }

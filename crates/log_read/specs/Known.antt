@@ -8,11 +8,10 @@ use Rattle.rules_laws.specs.Lists.{all_append}
 use Rattle.rules_laws.specs.Tests.{is_within}
 use Rattle.log_read.specs.declared.Line.{Line}
 use Rattle.log_read.specs.declared.Line.TheVariants.{Blank, Two, Four, Other}
-use Rattle.log_read.specs.declared.Head.{Head}
 use Rattle.any_words.specs.Text.{lines}
 use Rattle.log_read.specs.Line.{line_of}
 use Rattle.any_words.specs.Numbers.{first-true, both_true}
-use Rattle.log_read.specs.Log.{most_records, Row, fits, row_on, Part, after, part, Reading, bad_head, no_head, head_on, headed, read_lines, read_text}
+use Rattle.log_read.specs.Log.{most_records, Row, FirstLine, fits, row_on, Part, after, part, Reading, bad_head, no_head, head_on, headed, read_lines, read_text}
 
 pub fits-few : (records k : ℕ) (l : Line) → records ≤ most_records → fits records l ≡ true → records + length (row_on k l) ≤ most_records
 fits-few records k Blank h e = omega arith
@@ -47,7 +46,7 @@ each-reading P bad good k (l ∷ ls) = go (head_on (line_of l)).empty (each-read
     go true next = next
     go false next = good k (line_of l) ls
 
-headed-few : (k : ℕ) (h : Head) (p : Part) → length p.rows ≤ most_records → length (headed k h p).rows ≤ most_records
+headed-few : (k : ℕ) (h : FirstLine) (p : Part) → length p.rows ≤ most_records → length (headed k h p).rows ≤ most_records
 headed-few k h p f = go h.good
   where
     go : (b : Bool) → length (headed k (record { empty = h.empty; good = b; nodes = h.nodes; bound = h.bound }) p).rows ≤ most_records
@@ -70,7 +69,7 @@ head-nodes (Two n d) = go (within 1 most_nodes n) refl
 head-nodes (Four a b c d) = omega arith
 head-nodes Other = omega arith
 
-headed-nodes : (k : ℕ) (h : Head) (p : Part) → h.nodes ≤ 8 → (headed k h p).nodes ≤ 8
+headed-nodes : (k : ℕ) (h : FirstLine) (p : Part) → h.nodes ≤ 8 → (headed k h p).nodes ≤ 8
 headed-nodes k h p f = go h.good
   where
     go : (b : Bool) → (headed k (record { empty = h.empty; good = b; nodes = h.nodes; bound = h.bound }) p).nodes ≤ 8
@@ -132,7 +131,7 @@ pub small-rows : (text : List ℕ) → All (λ e. (e.kind < 256) × (e.node < 25
 unfolding read_text
 small-rows text = small-steps (read_lines 1 (lines text)).rows (each-reading (λ r. All Small r.rows) (λ k. tt) (λ k l ls. head (suc k) (head_on l) (part 0 (suc (suc k)) ls) (small-part 0 (suc (suc k)) ls)) 0 (lines text))
   where
-    head : (k : ℕ) (h : Head) (p : Part) → All Small p.rows → All Small (headed k h p).rows
+    head : (k : ℕ) (h : FirstLine) (p : Part) → All Small p.rows → All Small (headed k h p).rows
     head k h p s = pick h.good
       where
         pick : (b : Bool) → All Small (headed k (record { empty = h.empty; good = b; nodes = h.nodes; bound = h.bound }) p).rows

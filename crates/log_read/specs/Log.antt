@@ -1,12 +1,13 @@
 -- A merged log as text: the first line that is not empty has the node count and the clocks' bound, each line behind it a record or nothing.
-use Rattle.std.specs.Prelude.{Bool, true, false, cond, ◌&&◌, List, [], ◌∷◌, ◌++◌, ℕ, suc, ◌+◌, leb, ltb, length}
+use Rattle.std.specs.Prelude.{Bool, true, false, cond, ◌&&◌, List, [], ◌∷◌, ◌++◌, Result, Ok, Err, ℕ, suc, ◌+◌, eqb, leb, ltb, length}
 use Rattle.rules.specs.Limits.{most_nodes}
 use Rattle.rules.specs.Range.{within}
 use Rattle.merge_verdict.specs.Clocks.{Logged}
 use Rattle.log_read.specs.declared.Line.{Line}
 use Rattle.log_read.specs.declared.Line.TheVariants.{Blank, Two, Four, Other}
-use Rattle.log_read.specs.declared.Head.{Head}
+use Rattle.log_read.specs.declared.Record.{Record}
 use Rattle.log_read.specs.declared.Log.{Log}
+use Rattle.log_read.specs.declared.Refused.{Refused}
 use Rattle.any_words.specs.Text.{lines}
 use Rattle.log_read.specs.Line.{line_of}
 
@@ -69,18 +70,25 @@ pub record Reading : Type 0 where
 abbrev pub bad_head : ℕ → Reading
 bad_head k = record { refused = k; nodes = 0; bound = 0; rows = [] }
 
-abbrev pub no_head : Bool → Head
+-- What a first line says, if it is not empty and good.
+pub record FirstLine : Type 0 where
+  pub empty : Bool
+  pub good : Bool
+  pub nodes : ℕ
+  pub bound : ℕ
+
+abbrev pub no_head : Bool → FirstLine
 no_head empty = record { empty = empty; good = false; nodes = 0; bound = 0 }
 
 -- What a first line says.
-abbrev pub head_on : Line → Head
+abbrev pub head_on : Line → FirstLine
 head_on Blank = no_head true
 head_on (Two nodes bound) = cond (within 1 most_nodes nodes) (record { empty = false; good = true; nodes = nodes; bound = bound }) (no_head false)
 head_on (Four a b c d) = no_head false
 head_on Other = no_head false
 
 -- Line k has the head.
-abbrev pub headed : ℕ → Head → Part → Reading
+abbrev pub headed : ℕ → FirstLine → Part → Reading
 headed k h p = cond h.good (record { refused = p.refused; nodes = h.nodes; bound = h.bound; rows = p.rows }) (bad_head k)
 
 -- The lines from number k on, where those before are empty. Where all are, line 1 is refused.
@@ -93,13 +101,16 @@ read_text text = read_lines 1 (lines text)
 
 -- ---- what the code answers
 
--- Five numbers for each record.
+-- The numbers of a record, as they are printed.
 abbrev pub row_numbers : Row → List ℕ
 row_numbers r = r.line ∷ r.logged.log ∷ r.logged.time ∷ r.logged.event.kind ∷ r.logged.event.node ∷ []
 
-unfoldable pub numbers_in : List Row → List ℕ
-numbers_in [] = []
-numbers_in (r ∷ rows) = row_numbers r ++ numbers_in rows
+-- A record as the code has it, and back.
+abbrev pub record_of : Row → Record
+record_of r = record { line = r.line; log = r.logged.log; time = r.logged.time; kind = r.logged.event.kind; node = r.logged.event.node }
 
-abbrev pub log_of : Reading → Log
-log_of r = record { refused = r.refused; nodes = r.nodes; bound = r.bound; records = length r.rows }
+abbrev pub row_of : Record → Row
+row_of r = record { line = r.line; logged = record { log = r.log; time = r.time; event = record { kind = r.kind; node = r.node } } }
+
+abbrev pub log_of : Reading → Result Log Refused
+log_of r = cond (eqb r.refused 0) (Ok (record { nodes = r.nodes; bound = r.bound; records = length r.rows })) (Err (record { line = r.refused }))

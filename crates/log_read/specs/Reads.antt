@@ -1,239 +1,235 @@
 -- A log read line by line. Assumes nothing.
-use Rattle.std.specs.Prelude.{◌≡◌, refl, Bool, true, ◌&&◌, ℕ, suc, ◌+◌, ◌*◌, ◌-◌, ◌≤◌, ◌<◌, leb, ltb, get_or, set, take, drop}
-use Rattle.std.proofs.Math.Path.{sym, ap, ap₂}
-use Rattle.std.proofs.Common.{◌∙◌, true≢false, add-one, le-leb}
-use Rattle.std.proofs.Math.Bool.{false, cond}
-use mathlib.Core.List.{List, [], ◌∷◌, ◌++◌, append_assoc, append-nil}
-use native.Mathlib.Omega.{arith}
-use Rattle.std.proofs.Math.ListN.{length, length-append}
-use Rattle.std.proofs.Math.Seq.{sets}
-use Rattle.std.proofs.lemmas.Bool.{lt-leb}
-use Rattle.rules.specs.Limits.{most_nodes}
+use Rattle.std.specs.Prelude.{◌≡◌, ◌≢◌, refl, Bool, true, false, cond, ◌&&◌, List, [], ◌∷◌, ◌++◌, map, Option, Some, None, Result, Ok, Err, ℕ, suc, ◌+◌, ◌≤◌, ◌<◌, eqb, leb, ltb, length, get_or, set, drop}
+use Rattle.std.specs.Option.{is_some}
+use Rattle.std.specs.List.{slice_split, enumerate_from}
+use Rattle.std.proofs.lemmas.List.FromFn.{length-enumerate_from, get_or-enumerate_from}
+use Rattle.std.proofs.Math.Path.{sym, ap}
+use Rattle.std.proofs.Common.{◌∙◌, true≢false, add-one, arith, drop-cons, drop_of_length-le, append_assoc, append-nil, length-append, lt-ltb, le-leb}
+use Rattle.std.proofs.Math.Dec.{eqb-suc-zero}
+use Rattle.std.proofs.lemmas.List.{length-map, map-append}
+use Rattle.std.proofs.lemmas.List.Edits.{sets}
 use Rattle.rules.specs.Range.{within}
-use Rattle.any_text.specs.Put.{Put}
-use Rattle.any_text.specs.Puts.{put-none, put_then}
-use Rattle.any_search.specs.Seek.{Sought}
-use Rattle.any_words.specs.Text.{is_newline, lines}
-use Rattle.any_words.specs.Lines.{lines_from, lines_more}
+use Rattle.any_words.specs.Text.{lines}
+use Rattle.any_words.specs.Pieces.{split-pieces}
 use Rattle.log_read.specs.declared.Line.{Line}
 use Rattle.log_read.specs.declared.Line.TheVariants.{Blank, Two, Four, Other}
-use Rattle.log_read.specs.declared.Taken.{Taken}
+use Rattle.log_read.specs.declared.Record.{Record}
 use Rattle.log_read.specs.declared.Head.{Head}
 use Rattle.log_read.specs.declared.Log.{Log}
+use Rattle.log_read.specs.declared.Refused.{Refused}
 use Rattle.log_read.specs.Line.{line_of}
-use Rattle.log_read.specs.Known.{fits-few}
-use Rattle.log_read.specs.Log.{most_records, Row, fits, row_on, Part, behind, after, part, Reading, bad_head, no_head, head_on, headed, read_lines, log_of, read_text, row_numbers, numbers_in}
+use Rattle.log_read.specs.Log.{most_records, Row, fits, row_on, Part, behind, after, part, FirstLine, Reading, bad_head, no_head, head_on, headed, read_lines, log_of, read_text, record_of}
 
-abbrev pub row_room : ℕ
-row_room = 163810
+-- ---- the lines
 
--- ---- the numbers of records
+-- The line with number n, counted from 0, as a loop over the pieces comes to it.
+pub record Turn (text : List ℕ) (k n : ℕ) (l : List ℕ) : Type 0 where
+  pub more : k < length (lines text)
+  pub number : n ≡ k
+  pub line : l ≡ get_or (lines text) k l
 
-numbers-both : (a b : List Row) → numbers_in (a ++ b) ≡ numbers_in a ++ numbers_in b
-unfolding numbers_in
-numbers-both [] b = refl
-numbers-both (r ∷ a) b = ap (λ (l : List ℕ). row_numbers r ++ l) (numbers-both a b) ∙ sym (append_assoc (row_numbers r) (numbers_in a) (numbers_in b))
+pub turn : (text : List ℕ) {k n : ℕ} {l : List ℕ} → (k < length (enumerate_from 0 (slice_split (λ b. eqb b 10) text))) × ((n, l) ≡ get_or (enumerate_from 0 (slice_split (λ b. eqb b 10) text)) k (n, l)) → Turn text k n l
+turn text {k} {n} {l} t =
+    let ps = slice_split (λ b. eqb b 10) text in
+    let more : k < length ps = (let z = length-enumerate_from 0 ps in let y = t.0 in omega arith) in
+    let e : ◌≡◌ {A = ℕ × List ℕ} (n, l) (0 + k, get_or ps k l) = t.1 ∙ get_or-enumerate_from 0 ps k (n, l) more in
+    record {
+      more = rw (← split-pieces (λ b. eqb b 10) text) more;
+      number = let z : n ≡ 0 + k = ap (λ (x : ℕ × List ℕ). x.0) e in omega arith;
+      line = ap (λ (x : ℕ × List ℕ). x.1) e ∙ ap (λ (ls : List (List ℕ)). get_or ls k l) (split-pieces (λ b. eqb b 10) text);
+    }
 
--- five stores in the code
-pub five-stores : (l : List ℕ) (i a b c d e : ℕ) → set (set (set (set (set l i a) (i + 1) b) (i + 2) c) (i + 3) d) (i + 4) e ≡ sets l i (a ∷ b ∷ c ∷ d ∷ e ∷ [])
-five-stores l i a b c d e =
-    let one : i + 1 ≡ suc i = omega arith in
-    let two : i + 2 ≡ suc (suc i) = omega arith in
-    let three : i + 3 ≡ suc (suc (suc i)) = omega arith in
-    let four : i + 4 ≡ suc (suc (suc (suc i))) = omega arith in
-    rw (one, two, three, four)
+pub turns-end : (text : List ℕ) {k : ℕ} → k ≡ length (enumerate_from 0 (slice_split (λ b. eqb b 10) text)) → length (lines text) ≤ k
+turns-end text {k} e =
+    let z = length-enumerate_from 0 (slice_split (λ b. eqb b 10) text) in
+    let y = ap length (split-pieces (λ b. eqb b 10) text) in
+    omega arith
 
--- ---- one line
+-- ---- what is left to read
 
--- What taking a line leaves: its record behind the others, if the line fits.
-pub record Took (records k : ℕ) (line : Line) (before after : List ℕ) (t : Taken) : Type 0 where
-  pub fitting : t.fits ≡ fits records line
-  pub counted : t.fits ≡ true → t.records ≡ records + length (row_on k line)
-  pub put : t.fits ≡ true → Put before (5 * records) (numbers_in (row_on k line)) after (5 * t.records)
-  pub kept : t.fits ≡ false → after ≡ before
+-- What a log is of which the head and these records are read.
+abbrev begun : Head → Part → Reading
+begun h p = record { refused = p.refused; nodes = h.nodes; bound = h.bound; rows = p.rows }
 
--- A line without a record.
-pub took-none : (records k : ℕ) (l : List ℕ) {line : Line} (b : Bool) → fits records line ≡ b → (b ≡ true → row_on k line ≡ []) → Took records k line l l (record { fits = b; records = records })
-unfolding numbers_in
-took-none records k l {line} b e f = record {
-  fitting = sym e;
-  counted = λ t. let z = ap length (f t) in omega arith;
-  put = λ t. rw (f t) (put-none l (5 * records));
-  kept = λ t. refl;
-}
+abbrev from : Option Head → List Row → ℕ → ℕ → List (List ℕ) → Reading
+from None done count i ls = read_lines (suc i) ls
+from (Some h) done count i ls = begun h (behind done (part count (suc i) ls))
 
-module _ (records k : ℕ) (l : List ℕ) {line : Line} {log time kind node : ℕ} (is : line ≡ Four log time kind node) where
-  pub took-bad : ltb records most_records && leb kind 255 && leb node 255 ≡ false → Took records k line l l (record { fits = false; records = records })
-  took-bad e = took-none records k l false (ap (fits records) is ∙ e) (λ t. absurd (true≢false (sym t)))
+-- One line of them.
+module _ (done : List Row) (count i : ℕ) (l : List ℕ) (ls : List (List ℕ)) where
+  -- As a line says, with a head.
+  after-line : Head → Line → Reading
+  after-line h line = begun h (behind done (after (fits count line) (suc i) (row_on (suc i) line) (part (count + length (row_on (suc i) line)) (suc (suc i)) ls)))
 
-  pub took-row : ltb records most_records && leb kind 255 && leb node 255 ≡ true → {m : List ℕ} → m ≡ sets l (5 * records) (k ∷ log ∷ time ∷ kind ∷ node ∷ [])
-      → Took records k line l m (record { fits = true; records = records + 1 })
-  unfolding numbers_in
-  took-row e {m} s = rw is (record {
-    fitting = sym e;
-    counted = λ t. refl;
-    put = λ t. record { content = s; place = omega arith };
-    kept = λ t. absurd (true≢false t);
-  })
+  from-blank : (head : Option Head) → line_of l ≡ Blank → from head done count i (l ∷ ls) ≡ from head done count (suc i) ls
+  unfolding part after-line
+  from-blank None e = ap (λ (x : Line). cond (head_on x).empty (read_lines (suc (suc i)) ls) (headed (suc i) (head_on x) (part 0 (suc (suc i)) ls))) e
+  from-blank (Some h) e =
+      let same : count + 0 ≡ count = omega arith in
+      ap (after-line h) e ∙ ap (λ (k : ℕ). begun h (behind done (part k (suc (suc i)) ls))) same
 
--- ---- all lines
+  from-head : {nodes bound : ℕ} → line_of l ≡ Two nodes bound → leb 1 nodes ≡ true → leb nodes 8 ≡ true
+      → from None done count i (l ∷ ls) ≡ begun (record { nodes = nodes; bound = bound }) (part 0 (suc (suc i)) ls)
+  unfolding within
+  from-head {nodes} {bound} e a b =
+      ap (λ (x : Line). cond (head_on x).empty (read_lines (suc (suc i)) ls) (headed (suc i) (head_on x) (part 0 (suc (suc i)) ls))) e ∙ rw (a, b)
 
-pub record ReadPart (p : Part) (before after : List ℕ) (r n : ℕ) : Type 0 where
-  pub stopped : r ≡ p.refused
-  pub counted : n ≡ length p.rows
-  pub content : after ≡ sets before 0 (numbers_in p.rows)
+  from-record : (h : Head) {log time kind node : ℕ} → line_of l ≡ Four log time kind node → count < most_records → kind ≤ 255 → node ≤ 255
+      → from (Some h) done count i (l ∷ ls) ≡ from (Some h) (done ++ row_on (suc i) (Four log time kind node)) (count + 1) (suc i) ls
+  unfolding part after-line
+  from-record h {log} {time} {kind} {node} e a b c =
+      ap (after-line h) e
+      ∙ rw (lt-ltb count most_records a, le-leb kind 255 b, le-leb node 255 c)
+      (ap (λ (rows : List Row). record { refused = (part (count + 1) (suc (suc i)) ls).refused; nodes = h.nodes; bound = h.bound; rows = rows })
+      (sym (append_assoc done (row_on (suc i) (Four log time kind node)) (part (count + 1) (suc (suc i)) ls).rows)))
 
--- The lines before line k are read; it starts at a place.
-pub record Going (text : List ℕ) (start first : ℕ) (before rows : List ℕ) (at k records : ℕ) : Type 0 where
+  -- Where the line is refused.
+  stopped : Option Head → Reading
+  stopped None = bad_head (suc i)
+  stopped (Some h) = begun h (record { refused = suc i; rows = done ++ [] })
+
+  from-stops : (head : Option Head) → (head ≡ None → head_on (line_of l) ≡ no_head false) → (head ≢ None → fits count (line_of l) ≡ false) → from head done count i (l ∷ ls) ≡ stopped head
+  unfolding part stopped
+  from-stops None f k = ap (λ (x : FirstLine). cond x.empty (read_lines (suc (suc i)) ls) (headed (suc i) x (part 0 (suc (suc i)) ls))) (f refl)
+  from-stops (Some h) f k =
+      ap (λ (b : Bool). begun h (behind done (after b (suc i) (row_on (suc i) (line_of l)) (part (count + length (row_on (suc i) (line_of l))) (suc (suc i)) ls))))
+      (k (λ e. cc))
+
+-- One more is put down behind the others.
+sets-more : (vs l : List Record) (i : ℕ) (x : Record) → sets l i (vs ++ (x ∷ [])) ≡ set (sets l i vs) (i + length vs) x
+sets-more [] l i x = let z : i + 0 ≡ i = omega arith in rw z
+sets-more (v ∷ vs) l i x = let z : i + suc (length vs) ≡ suc i + length vs = omega arith in rw z (sets-more vs (set l i v) (suc i) x)
+
+no-head : (o : Option Head) → is_some o ≡ false → o ≡ None
+no-head None e = refl
+no-head (Some h) e = absurd (true≢false e)
+
+a-head : (o : Option Head) → is_some o ≡ true → o ≢ None
+a-head None e = absurd (true≢false (sym e))
+a-head (Some h) e = λ n. cc
+
+-- i lines are read, and `count` records put down.
+pub record Going (text : List ℕ) (before records : List Record) (head : Option Head) (count i : ℕ) : Type 0 where
   pub done : List Row
-  pub place : at ≤ length text + 1
-  pub number : k ≤ at + 1
-  pub few : records ≤ most_records
-  pub counted : records ≡ length done
-  pub put : Put before 0 (numbers_in done) rows (5 * records)
-  pub going : behind done (part records k (lines_from text at)) ≡ part 0 first (lines_from text start)
+  pub few : count ≤ most_records
+  pub counted : count ≡ length done
+  pub put : records ≡ sets before 0 (map record_of done)
+  pub none : head ≡ None → done ≡ []
+  pub going : from head done count i (drop i (lines text)) ≡ read_text text
 
-pub going-starts : (text : List ℕ) (start first : ℕ) (before : List ℕ) → start ≤ length text + 1 → first ≤ start + 1 → Going text start first before before start first 0
-unfolding numbers_in
-going-starts text start first before h n = record { done = []; place = h; number = n; few = omega arith; counted = refl; put = put-none before 0; going = refl }
-
-module _ {text : List ℕ} {start first : ℕ} {before rows : List ℕ} {at k records : ℕ} (g : Going text start first before rows at k records) where
-  -- All of them are read, as far as the lines are good.
-  all_read : {r : ℕ} → record { refused = r; rows = g.done ++ [] } ≡ part 0 first (lines_from text start) → ReadPart (part 0 first (lines_from text start)) before rows r records
-  all_read {r} e =
-      let all : g.done ≡ (part 0 first (lines_from text start)).rows = sym (append-nil g.done) ∙ ap (λ (p : Part). p.rows) e in
-      record { stopped = ap (λ (p : Part). p.refused) e; counted = g.counted ∙ ap length all; content = g.put.content ∙ ap (λ (l : List Row). sets before 0 (numbers_in l)) all }
-
-  pub going-ends : length text < at → ReadPart (part 0 first (lines_from text start)) before rows 0 records
-  unfolding part
-  going-ends h =
-      let end : lines_from text at ≡ [] = rw (lt-leb at (length text) h) in
-      all_read (ap (λ (ls : List (List ℕ)). behind g.done (part records k ls)) (sym end) ∙ g.going)
-
-  module _ (h : at ≤ length text) {end : ℕ} (s : Sought (λ k. is_newline (get_or text k 0)) at (length text) end)
-      {line : Line} (is : line ≡ line_of (take (end - at) (drop at text))) {rows' : List ℕ} {t : Taken} (took : Took records k line rows rows' t) where
-    rest : Part
-    rest = part (records + length (row_on k line)) (suc k) (lines_from text (end + 1))
-
-    next : behind g.done (after t.fits k (row_on k line) rest) ≡ part 0 first (lines_from text start)
-    unfolding part rest
-    next =
-        ap (λ (b : Bool). behind g.done (after b k (row_on k line) (part (records + length (row_on k line)) (suc k) (lines_from text (end + 1))))) took.fitting
-        ∙ ap (λ (x : Line). behind g.done (after (fits records x) k (row_on k x) (part (records + length (row_on k x)) (suc k) (lines_from text (end + 1))))) is
-        ∙ ap (λ (ls : List (List ℕ)). behind g.done (part records k ls)) (sym (lines_more text at end h s))
-        ∙ g.going
-
-    pub going-stops : t.fits ≡ false → ReadPart (part 0 first (lines_from text start)) before rows' k records
-    going-stops e = rw (took.kept e) (all_read (ap (λ (b : Bool). behind g.done (after b k (row_on k line) rest)) (sym e) ∙ next))
-
-    pub going_more : t.fits ≡ true → Going text start first before rows' (end + 1) (k + 1) t.records
-    unfolding rest
-    going_more e =
-        let n = took.counted e in
-        let low = s.low in
-        let high = s.high in
-        let number = g.number in
-        record {
-          done = g.done ++ row_on k line;
-          place = omega arith;
-          number = omega arith;
-          few = rw n (fits-few records k line g.few (sym took.fitting ∙ e));
-          counted = n ∙ (let z = g.counted in let y = length-append g.done (row_on k line) in omega arith);
-          put = rw (numbers-both g.done (row_on k line)) (put_then g.put (took.put e));
-          going = ap₂ (λ (c j : ℕ). behind (g.done ++ row_on k line) (part c j (lines_from text (end + 1)))) n (add-one k)
-              ∙ ap (λ (l : List Row). record { refused = rest.refused; rows = l }) (append_assoc g.done (row_on k line) rest.rows)
-              ∙ ap (λ (b : Bool). behind g.done (after b k (row_on k line) rest)) (sym e)
-              ∙ next;
-        }
-
--- ---- the first line
-
-module _ {line : Line} {nodes bound : ℕ} (is : line ≡ Two nodes bound) where
-  pub head-within : leb 1 nodes && leb nodes most_nodes ≡ true → record { empty = false; good = true; nodes = nodes; bound = bound } ≡ head_on line
-  unfolding within
-  head-within e = rw (is, e)
-
-  pub head-outside : leb 1 nodes && leb nodes most_nodes ≡ false → no_head false ≡ head_on line
-  unfolding within
-  head-outside e = rw (is, e)
-
--- A line that is good is not empty.
-good-some : (line : Line) → (head_on line).good ≡ true → (head_on line).empty ≡ false
-good-some Blank e = absurd (true≢false (sym e))
-good-some (Two nodes bound) e = go (within 1 most_nodes nodes)
-  where
-    go : (b : Bool) → (cond b (record { empty = false; good = true; nodes = nodes; bound = bound }) (no_head false)).empty ≡ false
-    go true = refl
-    go false = refl
-good-some (Four a b c d) e = refl
-good-some Other e = refl
-
--- The lines before line k are empty; it starts at a place. No row is touched.
-pub record Skipping (text before rows : List ℕ) (at k : ℕ) : Type 0 where
-  pub place : at ≤ length text + 1
-  pub number : k ≤ at + 1
-  pub same : rows ≡ before
-  pub skipped : read_lines k (lines_from text at) ≡ read_text text
+pub going-starts : (text : List ℕ) (before : List Record) → Going text before before None 0 0
+unfolding read_text
+going-starts text before = record { done = []; few = omega arith; counted = refl; put = refl; none = λ e. refl; going = refl }
 
 -- What a reading of the text leaves.
-abbrev pub ReadAll : List ℕ → List ℕ → List ℕ → Log → Type 0
-ReadAll text before after r = (r ≡ log_of (read_text text)) × (after ≡ sets before 0 (numbers_in (read_text text).rows))
+pub record ReadAll (text : List ℕ) (before after : List Record) (r : Result Log Refused) : Type 0 where
+  pub log : r ≡ log_of (read_text text)
+  pub records : after ≡ sets before 0 (map record_of (read_text text).rows)
 
-pub skipping-starts : (text before : List ℕ) → Skipping text before before 0 1
-unfolding read_text
-skipping-starts text before =
-    let all : lines_from text 0 ≡ lines text = rw (le-leb 0 (length text) (omega arith)) in
-    record { place = omega arith; number = omega arith; same = refl; skipped = ap (read_lines 1) all }
+module _ {text : List ℕ} {before records : List Record} {head : Option Head} {count i : ℕ} (g : Going text before records head count i) where
+  -- What the records are of, if the reading has them.
+  all-read : {r : Result Log Refused} {t : Reading} → t ≡ read_text text → t.rows ≡ g.done → r ≡ log_of t → ReadAll text before records r
+  all-read {r} {t} e f o = record {
+    log = o ∙ ap log_of e;
+    records = g.put ∙ ap (λ (rows : List Row). sets before 0 (map record_of rows)) (sym f ∙ ap (λ (x : Reading). x.rows) e);
+  }
 
-module _ {text before rows : List ℕ} {at k : ℕ} (g : Skipping text before rows at k) where
-  refused : {j : ℕ} → bad_head j ≡ read_text text → ReadAll text before rows (log_of (bad_head j))
-  unfolding numbers_in
-  refused e = (ap log_of e, g.same ∙ ap (λ (r : Reading). sets before 0 (numbers_in r.rows)) e)
+  over : length (lines text) ≤ i → from head g.done count i [] ≡ read_text text
+  over h = ap (from head g.done count i) (sym (drop_of_length-le (lines text) {i = i} h)) ∙ g.going
 
-  pub skipping-ends : length text < at → ReadAll text before rows (log_of (bad_head 1))
-  skipping-ends h = let end : lines_from text at ≡ [] = rw (lt-leb at (length text) h) in refused (ap (read_lines k) (sym end) ∙ g.skipped)
+  pub going-ends : {h : Head} → head ≡ Some h → length (lines text) ≤ i → ReadAll text before records (Ok (record { nodes = h.nodes; bound = h.bound; records = count }))
+  unfolding part
+  going-ends {h} e k =
+      all-read (ap (λ (o : Option Head). from o g.done count i []) (sym e) ∙ over k) (append-nil g.done)
+      (ap (λ (n : ℕ). Ok (record { nodes = h.nodes; bound = h.bound; records = n })) (g.counted ∙ ap length (sym (append-nil g.done))))
 
-  module _ (h : at ≤ length text) {end : ℕ} (s : Sought (λ k. is_newline (get_or text k 0)) at (length text) end)
-      {line : Line} (is : line ≡ line_of (take (end - at) (drop at text))) {head : Head} (says : head ≡ head_on line) where
-    tail : Part
-    tail = part 0 (suc k) (lines_from text (end + 1))
+  pub going-empty : head ≡ None → length (lines text) ≤ i → ReadAll text before records (Err (record { line = 1 }))
+  going-empty e k = all-read (ap (λ (o : Option Head). from o g.done count i []) (sym e) ∙ over k) (sym (g.none e)) refl
 
-    here : cond head.empty (read_lines (suc k) (lines_from text (end + 1))) (headed k head tail) ≡ read_text text
-    unfolding tail
-    here =
-        ap (λ (x : Head). cond x.empty (read_lines (suc k) (lines_from text (end + 1))) (headed k x (part 0 (suc k) (lines_from text (end + 1))))) (says ∙ ap head_on is)
-        ∙ ap (read_lines k) (sym (lines_more text at end h s))
-        ∙ g.skipped
+  module _ {n : ℕ} {l : List ℕ} (t : Turn text i n l) where
+    ls : List (List ℕ)
+    ls = drop (suc i) (lines text)
 
-    with-head : head.empty ≡ false → headed k head tail ≡ read_text text
-    with-head e = ap (λ (b : Bool). cond b (read_lines (suc k) (lines_from text (end + 1))) (headed k head tail)) (sym e) ∙ here
+    here : from head g.done count i (l ∷ ls) ≡ read_text text
+    unfolding ls
+    here = ap (λ (m : List ℕ). from head g.done count i (m ∷ drop (suc i) (lines text))) t.line ∙ ap (from head g.done count i) (sym (drop-cons (lines text) i l t.more)) ∙ g.going
 
-    pub head-bad : head.good ≡ false → head.empty ≡ false → ReadAll text before rows (log_of (bad_head k))
-    head-bad e f =
-        refused (ap (λ (b : Bool). cond b (record { refused = tail.refused; nodes = head.nodes; bound = head.bound; rows = tail.rows }) (bad_head k)) (sym e) ∙ with-head f)
+    pub going-blank : {m : ℕ} → m ≡ i + 1 → line_of l ≡ Blank → Going text before records head count m
+    unfolding ls
+    going-blank q e = rw q (record {
+      done = g.done;
+      few = g.few;
+      counted = g.counted;
+      put = g.put;
+      none = g.none;
+      going = rw (add-one i) (sym (from-blank g.done count i l ls head e) ∙ here);
+    })
 
-    pub head-good : head.good ≡ true → {after : List ℕ} {r n : ℕ} → ReadPart (part 0 (k + 1) (lines_from text (end + 1))) rows after r n
-        → ReadAll text before after (record { refused = r; nodes = head.nodes; bound = head.bound; records = n })
-    unfolding tail
-    head-good e {after} {r} {n} p =
-        let some : head.empty ≡ false = ap (λ (x : Head). x.empty) says ∙ good-some line (sym (ap (λ (x : Head). x.good) says) ∙ e) in
-        let good : record { refused = tail.refused; nodes = head.nodes; bound = head.bound; rows = tail.rows } ≡ read_text text =
-        ap (λ (b : Bool). cond b (record { refused = tail.refused; nodes = head.nodes; bound = head.bound; rows = tail.rows }) (bad_head k)) (sym e) ∙ with-head some in
-        let q : ReadPart tail rows after r n = rw (add-one k) at p in (
-          ap₂ (λ (x y : ℕ). record { refused = x; nodes = head.nodes; bound = head.bound; records = y }) q.stopped q.counted ∙ ap log_of good,
-          q.content ∙ ap₂ (λ (l : List ℕ) (t : Reading). sets l 0 (numbers_in t.rows)) g.same good,
-        )
+    pub going-head : {m : ℕ} → m ≡ i + 1 → {nodes bound : ℕ} → line_of l ≡ Two nodes bound → is_some head ≡ false → 1 ≤ nodes → nodes ≤ 8 → Going text before records (Some (record { nodes = nodes; bound = bound })) count m
+    unfolding ls
+    going-head q {nodes} {bound} e o a b =
+        let f = no-head head o in
+        let zero : count ≡ 0 = g.counted ∙ ap length (g.none f) in
+        rw q (record {
+          done = [];
+          few = g.few;
+          counted = zero;
+          put = g.put ∙ ap (λ (rows : List Row). sets before 0 (map record_of rows)) (g.none f);
+          none = λ n. refl;
+          going = rw (add-one i, zero) (sym (from-head g.done count i l ls e (le-leb 1 nodes a) (le-leb nodes 8 b)) ∙ ap (λ (o : Option Head). from o g.done count i (l ∷ ls)) (sym f) ∙ here);
+        })
 
-    pub skipping-more : head.empty ≡ true → Skipping text before rows (end + 1) (k + 1)
-    skipping-more e =
-        let low = s.low in
-        let high = s.high in
-        let number = g.number in
-        record {
-          place = omega arith;
-          number = omega arith;
-          same = g.same;
-          skipped = ap (λ (j : ℕ). read_lines j (lines_from text (end + 1))) (add-one k)
-              ∙ ap (λ (b : Bool). cond b (read_lines (suc k) (lines_from text (end + 1))) (headed k head tail)) (sym e)
-              ∙ here;
-        }
+    with-record : {m : ℕ} → m ≡ i + 1 → {log time kind node : ℕ} → line_of l ≡ Four log time kind node → {h : Head} → head ≡ Some h → count < most_records → kind ≤ 255 → node ≤ 255
+        → Going text before (set records count (record { line = n + 1; log = log; time = time; kind = kind; node = node })) head (count + 1) m
+    unfolding ls
+    with-record q {log} {time} {kind} {node} e {h} f a b c = rw (q, t.number) (record {
+      done = g.done ++ row_on (suc i) (Four log time kind node);
+      few = omega arith;
+      counted = let z = g.counted in let y = length-append g.done (row_on (suc i) (Four log time kind node)) in omega arith;
+      put =
+          let at : count ≡ 0 + length (map record_of g.done) = (let z = g.counted in let y = length-map g.done record_of in omega arith) in
+          rw (map-append record_of g.done (row_on (suc i) (Four log time kind node)), sets-more (map record_of g.done) before 0 (record_of (record { line = suc i; logged = record { log = log; time = time; event = record { kind = kind; node = node } } })), g.put, at, add-one i);
+      none = λ n. cc;
+      going = rw (add-one i, f) (sym (from-record g.done count i l ls h e a b c) ∙ ap (λ (o : Option Head). from o g.done count i (l ∷ ls)) (sym f) ∙ here);
+    })
+
+    pub going-record : {m : ℕ} → m ≡ i + 1 → {log time kind node : ℕ} → line_of l ≡ Four log time kind node → is_some head ≡ true → count < most_records → kind ≤ 255 → node ≤ 255
+        → Going text before (set records count (record { line = n + 1; log = log; time = time; kind = kind; node = node })) head (count + 1) m
+    going-record {m} q {log} {time} {kind} {node} e o a b c = go head refl
+      where
+        go : (h : Option Head) → head ≡ h → Going text before (set records count (record { line = n + 1; log = log; time = time; kind = kind; node = node })) head (count + 1) m
+        go None f = absurd (a-head head o f)
+        go (Some h) f = with-record q e f a b c
+
+    -- The line is refused.
+    pub going-stops : (head ≡ None → head_on (line_of l) ≡ no_head false) → (head ≢ None → fits count (line_of l) ≡ false) → ReadAll text before records (Err (record { line = n + 1 }))
+    unfolding ls stopped
+    going-stops f k = go head refl
+      where
+        go : (o : Option Head) → head ≡ o → ReadAll text before records (Err (record { line = n + 1 }))
+        go None e = all-read (sym (ap (stopped g.done count i l ls) e) ∙ sym (from-stops g.done count i l ls head f k) ∙ here) (sym (g.none e)) (rw (t.number, add-one i, eqb-suc-zero i))
+        go (Some h) e = all-read (sym (ap (stopped g.done count i l ls) e) ∙ sym (from-stops g.done count i l ls head f k) ∙ here) (append-nil g.done) (rw (t.number, add-one i, eqb-suc-zero i))
+
+    pub stops-two : {a b : ℕ} → line_of l ≡ Two a b → is_some head ≡ true → ReadAll text before records (Err (record { line = n + 1 }))
+    stops-two e o = going-stops (λ z. absurd (a-head head o z)) (λ z. ap (fits count) e)
+
+    pub stops-nodes : {a b : ℕ} → line_of l ≡ Two a b → leb 1 a && leb a 8 ≡ false → ReadAll text before records (Err (record { line = n + 1 }))
+    unfolding within
+    stops-nodes e f = going-stops (λ z. ap head_on e ∙ rw f) (λ z. ap (fits count) e)
+
+    pub stops-four : {a b c d : ℕ} → line_of l ≡ Four a b c d → is_some head ≡ false → ReadAll text before records (Err (record { line = n + 1 }))
+    stops-four e o = going-stops (λ z. ap head_on e) (λ z. absurd (z (no-head head o)))
+
+    pub stops-record : {a b c d : ℕ} → line_of l ≡ Four a b c d → ltb count most_records && leb c 255 && leb d 255 ≡ false → ReadAll text before records (Err (record { line = n + 1 }))
+    stops-record e f = going-stops (λ z. ap head_on e) (λ z. ap (fits count) e ∙ f)
+
+    pub stops-other : line_of l ≡ Other → ReadAll text before records (Err (record { line = n + 1 }))
+    stops-other e = going-stops (λ z. ap head_on e) (λ z. ap (fits count) e)
+
+-- A test that one part fails.
+pub first-fails : (a b : Bool) → a ≡ false → a && b ≡ false
+first-fails a b e = rw e
+
+pub second-fails : (a b : Bool) → b ≡ false → a && b ≡ false
+second-fails true b e = e
+second-fails false b e = refl

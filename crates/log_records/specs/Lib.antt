@@ -1,5 +1,6 @@
 -- Believed: Rows, PairLine.
--- Laws: Times.
+-- Laws: Times, Places.
 pub mod Rows
 pub mod PairLine
 pub mod Times
+pub mod Places

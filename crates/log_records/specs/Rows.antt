@@ -1,27 +1,20 @@
--- The records of a log as numbers, five of them to each.
-use Rattle.std.specs.Prelude.{List, map, ℕ, ◌+◌, ◌*◌, get_or}
+-- The records of a log, as the code has them.
+use Rattle.std.specs.Prelude.{List, map, ℕ, get_or}
 use Rattle.rules.specs.Step.{Event}
 use Rattle.merge_verdict.specs.Clocks.{Logged}
-use Rattle.any_list.specs.Arrays.{table}
-use Rattle.log_read.specs.Log.{Row}
+use Rattle.log_read.specs.declared.Record.{Record}
+use Rattle.log_read.specs.Log.{Row, record_of, row_of}
 
 -- Where there is no record.
 abbrev pub no_row : Row
 no_row = record { line = 0; logged = record { log = 0; time = 0; event = record { kind = 0; node = 0 } } }
 
-abbrev pub row_in : List ℕ → ℕ → Row
-row_in l i = record {
-  line = get_or l (5 * i) 0;
-  logged = record {
-    log = get_or l (5 * i + 1) 0;
-    time = get_or l (5 * i + 2) 0;
-    event = record { kind = get_or l (5 * i + 3) 0; node = get_or l (5 * i + 4) 0 };
-  };
-}
+abbrev pub row_at : List Record → ℕ → Row
+row_at l i = row_of (get_or l i (record_of no_row))
 
--- The first n of them.
-abbrev pub rows_in : List ℕ → ℕ → List Row
-rows_in l n = table n (row_in l)
+-- All of them.
+abbrev pub rows_of : List Record → List Row
+rows_of l = map row_of l
 
 -- The steps of the records.
 abbrev pub steps_of : List Row → List Event

@@ -1,12 +1,11 @@
 -- Only a pair whose exchange differs gives a line "differs", and only a pair that stands against the clocks a line "against". Assumes nothing.
-use Rattle.std.specs.Prelude.{◌≡◌, Bool, cond, T, eqb, leb, length, get_or, take}
+use Rattle.std.specs.Prelude.{◌≡◌, Bool, cond, T, eqb, leb, length, get_or, take, Option, None, Some, unwrap_or}
 use Rattle.std.proofs.Math.Path.{refl}
 use Rattle.std.proofs.Common.{sym, ap, ◌∙◌, arith}
 use Rattle.std.proofs.Math.Bool.{true, false}
 use mathlib.Core.List.{List, [], ◌∷◌, ◌++◌, append_assoc, append-nil}
 use Prim.Native.Nat.{ℕ, zero, suc, ◌<◌}
 use Rattle.rules.specs.Range.{all}
-use Rattle.rules.specs.State.{Write}
 use Rattle.rules.specs.Step.{Event, step, fresh}
 use Rattle.rules.specs.Run.{run}
 use Rattle.rules_laws.specs.All.{All}
@@ -14,7 +13,8 @@ use Rattle.merge_verdict.specs.Clocks.{Logged, events, clocks, Timely}
 use Rattle.any_text.specs.Line.{spaced, line}
 use Rattle.run_difference.specs.Alike.{not_alike}
 use Rattle.merge_text.specs.Words as R
-use Rattle.merge_text.specs.Report.{parting_line}
+use Rattle.run_difference.specs.declared.Parting.{Parting}
+use Rattle.merge_text.specs.Report.{missing, parting_line}
 use Rattle.log_read.specs.Log.{longest_text, Row, row_numbers, read_text}
 use Rattle.log_records.specs.Rows.{no_row, steps_of, merged}
 use Rattle.log_records.specs.PairLine.{doubt, against, pair_line}
@@ -84,7 +84,7 @@ module _ (C : Type 0) (other : List ℕ) (apart : Apart other) where
   module _ (count bound : ℕ) (rows : List Row) where
     -- The exchange of a pair that was tried, where the histories differ.
     abbrev OnDiffers : Type 0
-    OnDiffers = (p : Pair) → Inside (length rows) p → (up : Bool) → allowed bound rows up p.x p.y ≡ true → eqb (parting_of count rows up p.x p.y).at 0 ≡ false
+    OnDiffers = (p : Pair) → Inside (length rows) p → (up : Bool) → allowed bound rows up p.x p.y ≡ true → (d : Parting) → parting_of count rows up p.x p.y ≡ Some d
         → (ns : List ℕ) → take (length other) (R.differs ++ spaced ns) ≡ other → C
 
     -- A pair that stands against the clocks.
@@ -97,20 +97,15 @@ module _ (C : Type 0) (other : List ℕ) (apart : Apart other) where
     in-outcome got p i rest behind s = go (allowed bound rows true p.x p.y) refl (allowed bound rows false p.x p.y) refl s
       where
         parting : (up : Bool) → allowed bound rows up p.x p.y ≡ true → Says other (parting_line (parting_of count rows up p.x p.y) ++ rest) → C
-        parting up e t = pick (eqb (parting_of count rows up p.x p.y).at 0) refl t
+        parting up e t = pick (parting_of count rows up p.x p.y) refl t
           where
-            numbers : List ℕ
-            numbers =
-                (parting_of count rows up p.x p.y).at
-                ∷ (parting_of count rows up p.x p.y).one.node
-                ∷ (parting_of count rows up p.x p.y).one.term.0
-                ∷ (parting_of count rows up p.x p.y).other.node
-                ∷ (parting_of count rows up p.x p.y).other.term.0
-                ∷ []
+            numbers : Parting → List ℕ
+            numbers d =
+                d.at ∷ (unwrap_or d.one missing).node ∷ (unwrap_or d.one missing).term.0 ∷ (unwrap_or d.other missing).node ∷ (unwrap_or d.other missing).term.0 ∷ []
 
-            pick : (b : Bool) → eqb (parting_of count rows up p.x p.y).at 0 ≡ b → Says other (cond b (line R.agrees []) (line R.differs numbers) ++ rest) → C
-            pick true j u = says-line other R.agrees [] rest refl (λ f. absurd (apart.agrees [] f)) behind u
-            pick false j u = says-line other R.differs numbers rest refl (got p i up e j numbers) behind u
+            pick : (o : Option Parting) → parting_of count rows up p.x p.y ≡ o → Says other (parting_line o ++ rest) → C
+            pick None j u = says-line other R.agrees [] rest refl (λ f. absurd (apart.agrees [] f)) behind u
+            pick (Some d) j u = says-line other R.differs (numbers d) rest refl (got p i up e d j (numbers d)) behind u
 
         go : (a : Bool) → allowed bound rows true p.x p.y ≡ a → (b : Bool) → allowed bound rows false p.x p.y ≡ b
             → Says other (cond a (parting_line (parting_of count rows true p.x p.y))
@@ -173,14 +168,14 @@ pub differs-means : DiffersMeans
 differs-means text s t = meant (OtherWrites (read_text text)) R.differs apart-differs text exchange (λ p i e ns f. absurd (let z : ◌≡◌ {A = ℕ} 97 100 = letter 0 f in omega arith)) s
   where
     exchange : OnDiffers (OtherWrites (read_text text)) R.differs apart-differs (read_text text).nodes (read_text text).bound (read_text text).rows
-    exchange p i up e d ns f =
+    exchange p i up e d parts ns f =
         let rows = (read_text text).rows in
         let k = exchange-allowed (read_text text).bound rows up p.x p.y i.0 i.1 e t in
         record {
           other = merged (exchanged up p.x p.y rows);
           same-logs = k.0;
           allowed = k.1;
-          differs = λ same. not_alike (history_of (read_text text).nodes rows) (history_of (read_text text).nodes (exchanged up p.x p.y rows)) d
+          differs = λ same. not_alike (history_of (read_text text).nodes rows) (history_of (read_text text).nodes (exchanged up p.x p.y rows)) parts
               (sym (writes-merged (read_text text).nodes rows) ∙ same ∙ writes-merged (read_text text).nodes (exchanged up p.x p.y rows));
         }
 
@@ -200,5 +195,5 @@ timely-at may (r ∷ rows) t (suc x) (suc y) h k = timely-at may rows t.1 x y (o
 
 pub against-means : AgainstMeans
 against-means text s t = meant ⊥ against apart-against text
-    (λ p i up e d ns f. absurd (let z : ◌≡◌ {A = ℕ} 100 97 = letter 0 f in omega arith))
+    (λ p i up e d parts ns f. absurd (let z : ◌≡◌ {A = ℕ} 100 97 = letter 0 f in omega arith))
     (λ p i e ns f. rw e at (timely-at (clocks (read_text text).bound) (read_text text).rows t p.x p.y i.0 i.1)) s

@@ -1,58 +1,61 @@
--- The code's numbers say the records of a log, and the answer by what the code has found. Assumes nothing.
-use Rattle.std.specs.Prelude.{◌≡◌, refl, ◌≢◌, List, [], ◌∷◌, ◌++◌, ℕ, zero, suc, ◌+◌, ◌*◌, ◌≤◌, ◌<◌, length, get_or, drop}
-use Rattle.std.proofs.Math.Path.{sym, ap}
-use Rattle.std.proofs.Common.{◌∙◌, le_of_suc-le-suc, arith, length-append}
+-- What the code has read says the records of a log, and the answer by what the code has found. Assumes nothing.
+use Rattle.std.specs.Prelude.{◌≡◌, ◌≢◌, refl, Bool, true, false, cond, List, [], ◌∷◌, ◌++◌, map, Result, Ok, Err, ℕ, ◌+◌, ◌≤◌, ◌<◌, eqb, length, take, drop}
+use Rattle.std.proofs.Math.Path.{sym, ap, ap₂}
+use Rattle.std.proofs.Common.{◌∙◌, arith, eqb-true, eq-eqb, ne_eqb, le-leb}
+use Rattle.std.proofs.lemmas.Bool.{lt-leb, eqb-false}
+use Rattle.std.proofs.lemmas.List.{length-map, take-append-le}
 use Rattle.std.proofs.lemmas.List.Edits.{sets, sets-eq}
-use Rattle.std.proofs.Math.Seq.{length-sets}
-use borrow.Author.Tests.{eq-eqb, ne_eqb, le-leb, lt-leb}
-use Rattle.any_list.specs.Tables.{table_of}
+use Rattle.std.proofs.Math.Seq.{take-length}
+use mathlib.Core.HLevel.{×_prop, Unit-prop}
+use Rattle.std.proofs.Math.Bridge.{le_prop}
+use Rattle.rules.specs.Step.{Event}
 use Rattle.any_text.specs.Line.{line}
-use Rattle.log_read.specs.Log.{longest_text, Row, read_text, row_numbers, numbers_in, log_of}
+use Rattle.log_read.specs.Log.{longest_text, Reading, read_text, record_of, log_of}
 use Rattle.log_read.specs.Known.{few-rows, few-nodes, good-nodes, small-rows}
-use Rattle.log_read.specs.Reads.{row_room}
+use Rattle.log_read.specs.declared.Record.{Record}
 use Rattle.log_read.specs.declared.Log.{Log}
-use Rattle.log_records.specs.Rows.{no_row, row_in, rows_in, steps_of}
+use Rattle.log_read.specs.declared.Refused.{Refused}
+use Rattle.log_records.specs.Rows.{rows_of, steps_of}
+use Rattle.log_records.specs.Places.{rows-back}
 use Rattle.run_lists.specs.Made.{Small}
 use Rattle.rules_laws.specs.All.{All}
 use Rattle.log_text.specs.Words as W
 use Rattle.log_text.specs.Answer.{log_text, answer}
 
--- What is known of the numbers of a good log: there are n records, with kinds and nodes that fit bytes.
-pub record Known (count : ℕ) (l : List ℕ) (n : ℕ) : Type 0 where
+-- What is known of a good log: it has few records, with kinds and nodes that fit bytes.
+pub record Known (count : ℕ) (l : List Record) : Type 0 where
   pub low : 1 ≤ count
   pub high : count ≤ 8
-  pub few : n ≤ 32762
-  pub room : 5 * n ≤ length l
-  pub small : All Small (steps_of (rows_in l n))
+  pub few : length l ≤ 32762
+  pub small : All Small (steps_of (rows_of l))
 
--- ---- numbers
+-- It is known in one way at most, as the check asks of a fact that a struct holds.
+small-once : (es : List Event) → IsProp (All Small es)
+small-once [] = Unit-prop
+small-once (e ∷ es) = ×_prop (×_prop le_prop le_prop) (small-once es)
 
-numbers-length : (rows : List Row) → length (numbers_in rows) ≡ 5 * length rows
-unfolding numbers_in
-numbers-length [] = omega arith
-numbers-length (r ∷ rows) = let z = numbers-length rows in simp length-append (omega arith)
+pub known-once : (count : ℕ) (l : List Record) → IsProp (Known count l)
+known-once count l = hlevel (small-once, le_prop)
 
-row-behind : (r : Row) (l : List ℕ) (i : ℕ) → row_in (row_numbers r ++ l) (suc i) ≡ row_in l i
-row-behind r l i =
-    let none : 5 * suc i ≡ suc (suc (suc (suc (suc (5 * i))))) = omega arith in
-    let one : 5 * suc i + 1 ≡ suc (suc (suc (suc (suc (5 * i + 1))))) = omega arith in
-    let two : 5 * suc i + 2 ≡ suc (suc (suc (suc (suc (5 * i + 2))))) = omega arith in
-    let three : 5 * suc i + 3 ≡ suc (suc (suc (suc (suc (5 * i + 3))))) = omega arith in
-    let four : 5 * suc i + 4 ≡ suc (suc (suc (suc (suc (5 * i + 4))))) = omega arith in
-    rw (four, three, two, one, none)
+-- ---- what a reading says
 
-row_written : (rows : List Row) (l : List ℕ) (i : ℕ) → i < length rows → get_or rows i no_row ≡ row_in (numbers_in rows ++ l) i
-unfolding numbers_in
-row_written [] l i h = absurd (omega arith)
-row_written (r ∷ rows) l zero h = refl
-row_written (r ∷ rows) l (suc i) h = row_written rows l i (le_of_suc-le-suc h) ∙ sym (row-behind r (numbers_in rows ++ l) i)
+pub record Good (t : Reading) (log : Log) : Type 0 where
+  pub good : t.refused ≡ 0
+  pub is : ◌≡◌ {A = Log} log (record { nodes = t.nodes; bound = t.bound; records = length t.rows })
 
--- The numbers that the code has put down say the records.
-pub rows-said : (rows : List Row) (before after : List ℕ) → 5 * length rows ≤ length before → after ≡ sets before 0 (numbers_in rows) → rows_in after (length rows) ≡ rows
-rows-said rows before after h e =
-    let n = numbers-length rows in
-    let is : after ≡ numbers_in rows ++ drop (0 + length (numbers_in rows)) before = e ∙ sets-eq (numbers_in rows) before 0 (omega arith) in
-    sym (table_of (length rows) (row_in after) rows no_row refl (λ i k. row_written rows (drop (0 + length (numbers_in rows)) before) i k ∙ ap (λ (l : List ℕ). row_in l i) (sym is)))
+pub said-good : (t : Reading) {log : Log} → Ok log ≡ log_of t → Good t log
+said-good t {log} e = go (eqb t.refused 0) refl e
+  where
+    go : (b : Bool) → eqb t.refused 0 ≡ b → ◌≡◌ {A = Result Log Refused} (Ok log) (cond b (Ok (record { nodes = t.nodes; bound = t.bound; records = length t.rows })) (Err (record { line = t.refused }))) → Good t log
+    go true i u = record { good = eqb-true _ _ i; is = cc }
+    go false i u = absurd (cc)
+
+pub said-refused : (t : Reading) {r : Refused} → Err r ≡ log_of t → (t.refused ≢ 0) × (r.line ≡ t.refused)
+said-refused t {r} e = go (eqb t.refused 0) refl e
+  where
+    go : (b : Bool) → eqb t.refused 0 ≡ b → ◌≡◌ {A = Result Log Refused} (Err r) (cond b (Ok (record { nodes = t.nodes; bound = t.bound; records = length t.rows })) (Err (record { line = t.refused }))) → (t.refused ≢ 0) × (r.line ≡ t.refused)
+    go true i u = absurd (cc)
+    go false i u = (eqb-false _ _ i, cc)
 
 -- ---- the answer, by what the code has found
 
@@ -60,41 +63,45 @@ pub answer-long : (text : List ℕ) → longest_text < length text → line W.re
 unfolding answer
 answer-long text h = rw (lt-leb (length text) longest_text h)
 
-module _ (text : List ℕ) {r : Log} (e : r ≡ log_of (read_text text)) (before after : List ℕ) (size : length before ≡ row_room) (o : after ≡ sets before 0 (numbers_in (read_text text).rows)) where
-  pub read-size : length after ≡ row_room
-  read-size = ap length o ∙ length-sets before 0 (numbers_in (read_text text).rows) ∙ size
-
-  rows-here : rows_in after r.records ≡ (read_text text).rows
-  rows-here =
-      let few = few-rows text in
-      ap (λ (x : Log). rows_in after x.records) e ∙ rows-said (read_text text).rows before after (omega arith) o
-
-  pub read_known : r.refused ≡ 0 → Known r.nodes after r.records
-  read_known d =
-      let n = ap (λ (x : Log). x.nodes) e in
-      let few = few-rows text in
-      let y = ap (λ (x : Log). x.records) e in
-      let w = read-size in
-      let low = good-nodes text (sym (ap (λ (x : Log). x.refused) e) ∙ d) in
-      let high = few-nodes text in
-      record {
-        low = omega arith;
-        high = omega arith;
-        few = omega arith;
-        room = omega arith;
-        small = rw rows-here (small-rows text);
-      }
-
-  pub read-refused : length text ≤ longest_text → r.refused ≢ 0 → line W.refused_line (r.refused ∷ []) ≡ answer text
+module _ (text : List ℕ) (short : length text ≤ longest_text) where
+  pub answer-refused : {r : Refused} → Err r ≡ log_of (read_text text) → line W.refused_line (r.line ∷ []) ≡ answer text
   unfolding answer
-  read-refused h d =
-      let is = ap (λ (x : Log). x.refused) e in
-      rw (le-leb (length text) longest_text h, ← is, ne_eqb r.refused 0 d)
+  answer-refused {r} e =
+      let s = said-refused (read_text text) e in
+      rw (le-leb (length text) longest_text short, ne_eqb (read_text text).refused 0 s.0, s.1)
 
-  pub read-good : length text ≤ longest_text → r.refused ≡ 0 → log_text r.nodes r.bound (rows_in after r.records) ≡ answer text
-  unfolding answer
-  read-good h d =
-      let none : (read_text text).refused ≡ 0 = sym (ap (λ (x : Log). x.refused) e) ∙ d in
-      ap (log_text r.nodes r.bound) rows-here
-      ∙ ap (λ (x : Log). log_text x.nodes x.bound (read_text text).rows) e
-      ∙ rw (le-leb (length text) longest_text h, eq-eqb (read_text text).refused 0 none)
+  pub few-records : {log : Log} → Ok log ≡ log_of (read_text text) → log.records ≤ 32762
+  few-records e = let few = few-rows text in let z = ap (λ (x : Log). x.records) (said-good (read_text text) e).is in omega arith
+
+  module _ {log : Log} (e : Ok log ≡ log_of (read_text text)) (before after : List Record) (size : length before ≡ 32762) (o : after ≡ sets before 0 (map record_of (read_text text).rows)) where
+    count : log.records ≡ length (map record_of (read_text text).rows)
+    count = ap (λ (x : Log). x.records) (said-good (read_text text) e).is ∙ sym (length-map (read_text text).rows record_of)
+
+    records : take log.records after ≡ map record_of (read_text text).rows
+    records =
+        let rs = map record_of (read_text text).rows in
+        let few = few-records e in
+        let n = count in
+        let is : after ≡ rs ++ drop (0 + length rs) before = o ∙ sets-eq rs before 0 (omega arith) in
+        ap₂ (λ (n : ℕ) (l : List Record). take n l) n is ∙ take-append-le (length rs) rs (drop (0 + length rs) before) (omega arith) ∙ take-length rs
+
+    rows-here : rows_of (take log.records after) ≡ (read_text text).rows
+    rows-here = ap rows_of records ∙ rows-back (read_text text).rows
+
+    pub answer-known : Known log.nodes (take log.records after)
+    answer-known =
+        let g = said-good (read_text text) e in
+        let n = ap (λ (x : Log). x.nodes) g.is in
+        let low = good-nodes text g.good in
+        let high = few-nodes text in
+        let few = few-records e in
+        let size = ap length records ∙ sym count in
+        record { low = omega arith; high = omega arith; few = omega arith; small = rw rows-here (small-rows text) }
+
+    pub answer-good : log_text log.nodes log.bound (rows_of (take log.records after)) ≡ answer text
+    unfolding answer
+    answer-good =
+        let g = said-good (read_text text) e in
+        ap (log_text log.nodes log.bound) rows-here
+        ∙ ap (λ (x : Log). log_text x.nodes x.bound (read_text text).rows) g.is
+        ∙ rw (le-leb (length text) longest_text short, eq-eqb (read_text text).refused 0 g.good)

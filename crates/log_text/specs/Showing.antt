@@ -1,26 +1,27 @@
 -- What pairs are shown, put into the buffer one after another. Assumes nothing.
-use Rattle.std.specs.Prelude.{◌≡◌, ◌≢◌, Bool, true, false, get_or, take}
+use Rattle.std.specs.Prelude.{◌≡◌, ◌≢◌, Bool, true, false, get_or, take, Option}
 use Rattle.std.proofs.Math.Path.{refl, sym, ap}
-use Rattle.std.proofs.Common.{ap₂, ◌∙◌, add-one, length-take, drop-cons}
+use Rattle.std.proofs.Common.{ap₂, ◌∙◌, add-one, drop-cons}
 use mathlib.Core.List.{List, [], ◌∷◌, ◌++◌, append_assoc, append-nil}
 use Prim.Native.Nat.{ℕ, zero, suc, ◌+◌, ◌*◌, ◌-◌, ◌≤◌, ◌<◌}
 use native.Mathlib.Omega.{arith}
 use Rattle.std.proofs.Math.ListN.{length, drop}
 use Rattle.any_text.specs.Line.{line}
 use Rattle.any_text.specs.Put.{Put}
-use Rattle.any_text.specs.Puts.{put-none, put_then, put-length}
+use Rattle.any_text.specs.Puts.{put-none, put_then}
 use Rattle.merge_text.specs.Words as R
 use Rattle.merge_text.specs.Report.{parting_line}
 use Rattle.run_difference.specs.declared.Parting.{Parting}
-use Rattle.any_list.specs.Tables.{table-get}
 use Rattle.log_read.specs.Log.{Row}
 use Rattle.log_exchange.specs.Exchange.{allowed, parting_of}
-use Rattle.log_records.specs.Rows.{no_row, row_in, rows_in}
+use Rattle.log_records.specs.Rows.{no_row, row_at, rows_of}
+use Rattle.log_records.specs.Places.{rows-get}
+use Rattle.log_read.specs.declared.Record.{Record}
 use Rattle.log_records.specs.PairLine.{pair_line}
 use Rattle.log_doubts.specs.declared.Pair.{Pair}
 use Rattle.log_doubts.specs.Doubts.{doubts}
-use Rattle.log_doubts.specs.Found.{most_pairs, Found}
-use Rattle.log_doubts.specs.Inside.{no_pair, pair_in, pairs-said}
+use Rattle.log_doubts.specs.Found.{most_pairs}
+use Rattle.log_doubts.specs.Inside.{no_pair}
 use Rattle.log_text.specs.Words as W
 use Rattle.log_text.specs.Answer.{outcome, pair_text, shown, most_shown, doubts_text, log_text}
 
@@ -33,17 +34,6 @@ abbrev pub longest : ℕ
 longest = 8192
 
 -- ---- the loop
-
--- These places say the pairs.
-pub record Say (ps : List Pair) (places : List ℕ) (total : ℕ) : Type 0 where
-  pub all : total ≡ length ps
-  pub room : 2 * total ≤ length places
-  pub are : (i : ℕ) → i < total → get_or ps i no_pair ≡ pair_in places i
-
-pub says : (ds : List Pair) {before after : List ℕ} {total : ℕ} → length before ≡ 2 * most_pairs → Found (take most_pairs ds) before after total → Say (take most_pairs ds) after total
-says ds {before} {after} {total} size f =
-    let few : total ≤ most_pairs = (let a = f.all in let z = length-take most_pairs ds in omega arith) in
-    record { all = f.all; room = let z = put-length f.put in omega arith; are = pairs-said f (omega arith) }
 
 -- The first i pairs are shown.
 pub record Showing (f : Pair → List ℕ) (ps : List Pair) (before after : List ℕ) (at i : ℕ) : Type 0 where
@@ -125,21 +115,20 @@ module _ (count bound : ℕ) (rows : List Row) {k : ℕ} (e : k ≡ length (take
       go [] n = absurd (n refl)
       go (p ∷ ps) n = refl
 
--- ---- the lines, by the numbers that the code holds
+-- ---- the lines, by the records that the code holds
 
-pub pair-line : (bound : ℕ) (l : List ℕ) (n : ℕ) (p : Pair) → p.x < n → p.y < n
-    → pair_line bound (row_in l p.x) (row_in l p.y) ≡ pair_line bound (get_or (rows_in l n) p.x no_row) (get_or (rows_in l n) p.y no_row)
-pair-line bound l n p h k = sym (ap₂ (pair_line bound) (table-get n (row_in l) p.x no_row h) (table-get n (row_in l) p.y no_row k))
+pub pair-line : (bound : ℕ) (l : List Record) (p : Pair) → pair_line bound (row_at l p.x) (row_at l p.y) ≡ pair_line bound (get_or (rows_of l) p.x no_row) (get_or (rows_of l) p.y no_row)
+pair-line bound l p = sym (ap₂ (pair_line bound) (rows-get l p.x) (rows-get l p.y))
 
 -- ---- what an exchange does, by the tests that the code makes
 
 module _ (count bound : ℕ) (rows : List Row) (p : Pair) where
-  pub outcome-up : {a : Bool} → a ≡ allowed bound rows true p.x p.y → a ≡ true → {d : Parting} → d ≡ parting_of count rows true p.x p.y → parting_line d ≡ outcome count bound rows p
+  pub outcome-up : {a : Bool} → a ≡ allowed bound rows true p.x p.y → a ≡ true → {d : Option Parting} → d ≡ parting_of count rows true p.x p.y → parting_line d ≡ outcome count bound rows p
   unfolding outcome
   outcome-up e t f = let z = sym e ∙ t in rw (z, f)
 
   module _ {a : Bool} (e : a ≡ allowed bound rows true p.x p.y) (u : a ≡ false) where
-    pub outcome-down : {b : Bool} → b ≡ allowed bound rows false p.x p.y → b ≡ true → {d : Parting} → d ≡ parting_of count rows false p.x p.y → parting_line d ≡ outcome count bound rows p
+    pub outcome-down : {b : Bool} → b ≡ allowed bound rows false p.x p.y → b ≡ true → {d : Option Parting} → d ≡ parting_of count rows false p.x p.y → parting_line d ≡ outcome count bound rows p
     unfolding outcome
     outcome-down g t f = let z = sym e ∙ u in let y = sym g ∙ t in rw (z, y, f)
 

@@ -1,17 +1,19 @@
 // What the program `merges` prints for a merged log, as one text in a lent buffer.
 #![tactic(auto)]
 
-ghost use Rattle.std.specs.Prelude.{◌+◌, ◌*◌, ◌≤◌, ◌<◌, length, take};
+ghost use Rattle.std.specs.Prelude.{◌≡◌, ◌+◌, ◌≤◌, ◌<◌, length, take};
 ghost use Rattle.any_text.specs.Put.{Put};
-ghost use Rattle.log_records.specs.Rows.{rows_in};
+ghost use Rattle.log_records.specs.Rows.{rows_of};
 ghost use Rattle.log_exchange.specs.Ran.{AtHand};
 ghost use Rattle.log_doubts.specs.Doubts.{doubts};
 ghost use Rattle.log_doubts.specs.Found.{most_pairs};
 ghost use Rattle.log_text.specs.Answer.{outcome, pair_text, shown, most_shown, log_text, answer};
-ghost use Rattle.log_text.specs.Rows.{Known};
-ghost use Rattle.log_text.specs.Showing.{longest, Say};
+ghost use Rattle.log_text.specs.Rows.{Known, known-once};
+ghost use Rattle.log_text.specs.Showing.{longest};
 
-use log_doubts::Pair;
+use log_doubts::{MOST_PAIRS, Pair};
+use log_exchange::Exchange;
+use log_records::Merge;
 
 // How many pairs are shown.
 const MOST_SHOWN: usize = 16;
@@ -19,96 +21,81 @@ const MOST_SHOWN: usize = 16;
 // Room for the longest text: 16 pairs of 384 bytes and a line of 5.
 pub const LONGEST_ANSWER: usize = 8192;
 
-// What the exchange of a pair does that the clocks allow.
-fn put_outcome(
-    buf: &mut [u8],
-    at: usize,
-    rows: &[u64],
-    n: usize,
-    nodes: u8,
-    bound: u64,
-    pair: Pair,
-    mine: &[u8],
+// A merge that was run, and what its run left: answers and history, and how many writes that has.
+#[derive(Clone, Copy)]
+struct Ran<'a> {
+    merge: Merge<'a>,
+    out: &'a [u8],
     writes: u32,
-) -> usize
-    requires { Known nodes rows.now n × AtHand nodes rows.now n mine.now writes × (pair.x < pair.y) × (pair.y < n) × (at + 128 ≤ length buf.old) }
-    ensures { Put buf.old at (outcome nodes bound (rows_in rows.now n) pair) buf.new result × (result ≤ at + 128) }
-{
-    if log_exchange::allowed(rows, n, bound, true, pair.x, pair.y) {
-        let parting = log_exchange::parting(rows, n, nodes, true, pair.x, pair.y, mine, writes);
-        return merge_text::put_parting(buf, at, parting);
-    }
-    if log_exchange::allowed(rows, n, bound, false, pair.x, pair.y) {
-        let parting = log_exchange::parting(rows, n, nodes, false, pair.x, pair.y, mine, writes);
-        return merge_text::put_parting(buf, at, parting);
-    }
-    any_text::put_word(buf, at, b"open\n")
+    ghost known: { Known merge.nodes merge.records.now } by { known-once merge.nodes merge.records.now },
+    ghost at_hand: { AtHand merge.nodes merge.records.now out.now writes },
 }
 
-// A pair, and what is known of it.
-fn put_pair(
-    buf: &mut [u8],
-    at: usize,
-    rows: &[u64],
-    n: usize,
-    nodes: u8,
-    bound: u64,
-    pair: Pair,
-    mine: &[u8],
-    writes: u32,
-) -> usize
-    requires { Known nodes rows.now n × AtHand nodes rows.now n mine.now writes × (pair.x < pair.y) × (pair.y < n) × (at + 384 ≤ length buf.old) }
-    ensures { Put buf.old at (pair_text nodes bound (rows_in rows.now n) pair) buf.new result × (result ≤ at + 384) }
-{
-    let next = log_records::put_pair(buf, at, rows, pair.x, pair.y, bound);
-    put_outcome(buf, next, rows, n, nodes, bound, pair, mine, writes)
-}
-
-// The pairs that were found, as many as are shown.
-fn put_doubts(
-    buf: &mut [u8],
-    rows: &[u64],
-    n: usize,
-    nodes: u8,
-    bound: u64,
-    found: &[usize],
-    pairs: usize,
-    mine: &[u8],
-    writes: u32,
-) -> usize
-    requires { Known nodes rows.now n × AtHand nodes rows.now n mine.now writes × (longest ≤ length buf.old) × Say (take most_pairs (doubts nodes bound (rows_in rows.now n))) found.now pairs }
-    ensures { Put buf.old 0 (shown (pair_text nodes bound (rows_in rows.now n)) most_shown (take most_pairs (doubts nodes bound (rows_in rows.now n))))
-        buf.new result × (result ≤ longest) }
-{
-    let mut at: usize = 0;
-    let mut i: usize = 0;
-    while i < pairs {
-        if i == MOST_SHOWN {
-            return any_text::put_word(buf, at, b"more\n");
+impl Ran<'_> {
+    // What the exchange of a pair does that the clocks allow.
+    fn put_outcome(&self, buf: &mut [u8], at: usize, pair: Pair) -> usize
+        requires { (pair.x < pair.y) × (pair.y < length self.now.merge.records.now) × (at + 128 ≤ length buf.old) }
+        ensures { Put buf.old at (outcome self.now.merge.nodes self.now.merge.bound (rows_of self.now.merge.records.now) pair) buf.new result × (result ≤ at + 128) }
+    {
+        let Pair { x, y } = pair;
+        let raised = Exchange { up: true, x, y };
+        if log_exchange::allowed(&self.merge, raised) {
+            let parting = log_exchange::parting(&self.merge, raised, self.out, self.writes);
+            return merge_text::put_parting(buf, at, parting);
         }
-        let pair = Pair {
-            x: found[2 * i],
-            y: found[2 * i + 1],
-        };
-        at = put_pair(buf, at, rows, n, nodes, bound, pair, mine, writes);
-        i += 1;
+        let lowered = Exchange { up: false, x, y };
+        if log_exchange::allowed(&self.merge, lowered) {
+            let parting = log_exchange::parting(&self.merge, lowered, self.out, self.writes);
+            return merge_text::put_parting(buf, at, parting);
+        }
+        any_text::put_word(buf, at, b"open\n")
     }
-    at
+
+    // A pair, and what is known of it.
+    fn put_pair(&self, buf: &mut [u8], at: usize, pair: Pair) -> usize
+        requires { (pair.x < pair.y) × (pair.y < length self.now.merge.records.now) × (at + 384 ≤ length buf.old) }
+        ensures { Put buf.old at (pair_text self.now.merge.nodes self.now.merge.bound (rows_of self.now.merge.records.now) pair) buf.new result × (result ≤ at + 384) }
+    {
+        let records = self.merge.records;
+        let (first, second) = (&records[pair.x], &records[pair.y]);
+        let next = log_records::put_pair(buf, at, first, second, self.merge.bound);
+        self.put_outcome(buf, next, pair)
+    }
+
+    // The pairs that were found, as many as are shown.
+    fn put_doubts(&self, buf: &mut [u8], found: &[Pair]) -> usize
+        requires { (longest ≤ length buf.old) × (found.now ≡ take most_pairs (doubts self.now.merge.nodes self.now.merge.bound (rows_of self.now.merge.records.now))) }
+        ensures { Put buf.old 0 (shown (pair_text self.now.merge.nodes self.now.merge.bound (rows_of self.now.merge.records.now)) most_shown found.now) buf.new result × (result ≤ longest) }
+    {
+        let mut at = 0;
+        for (i, pair) in found.iter().enumerate() {
+            if i == MOST_SHOWN {
+                return any_text::put_word(buf, at, b"more\n");
+            }
+            at = self.put_pair(buf, at, *pair);
+        }
+        at
+    }
 }
 
 // The text for a log that is not refused.
-fn put_log(buf: &mut [u8], rows: &[u64], n: usize, nodes: u8, bound: u64) -> usize
-    requires { Known nodes rows.now n × (longest ≤ length buf.old) }
-    ensures { Put buf.old 0 (log_text nodes bound (rows_in rows.now n)) buf.new result × (result ≤ longest) }
+fn put_log(buf: &mut [u8], merge: &Merge) -> usize
+    requires { Known merge.now.nodes merge.now.records.now × (longest ≤ length buf.old) }
+    ensures { Put buf.old 0 (log_text merge.now.nodes merge.now.bound (rows_of merge.now.records.now)) buf.new result × (result ≤ longest) }
 {
-    let mut found = [0usize; log_doubts::FOUND];
-    let pairs = log_doubts::first_pairs(rows, n, nodes, bound, &mut found);
+    let mut found = [Pair { x: 0, y: 0 }; MOST_PAIRS];
+    let pairs = log_doubts::first_pairs(merge, &mut found);
     if pairs == 0 {
         return any_text::put_word(buf, 0, b"same\n");
     }
-    let mut mine = [0u8; run::LONGEST_OUT];
-    let writes = log_exchange::run_at_hand(rows, n, nodes, &mut mine);
-    put_doubts(buf, rows, n, nodes, bound, &found, pairs, &mine, writes)
+    let mut out = [0u8; run::LONGEST_OUT];
+    let writes = log_exchange::run_at_hand(merge, &mut out);
+    let ran = Ran {
+        merge: *merge,
+        out: &out,
+        writes,
+    };
+    ran.put_doubts(buf, &found[..pairs])
 }
 
 // Reads the text of a merged log and puts what the program prints at the front of the buffer. Returns how many bytes that is.
@@ -118,11 +105,16 @@ pub fn answer(log: &[u8], buf: &mut [u8; LONGEST_ANSWER]) -> usize
     if log_read::LONGEST < log.len() {
         return any_text::put_word(buf, 0, b"refused long\n");
     }
-    let mut rows = [0u64; log_read::ROOM];
-    let read = log_read::read_log(log, &mut rows);
-    if read.refused != 0 {
-        let number = [read.refused as u64];
-        return any_text::put_line(buf, 0, b"refused line", &number);
+    let mut records = [log_read::NO_RECORD; log_read::MOST_RECORDS];
+    match log_read::read_log(log, &mut records) {
+        Ok(read) => {
+            let merge = Merge {
+                records: &records[..read.records],
+                nodes: read.nodes,
+                bound: read.bound,
+            };
+            put_log(buf, &merge)
+        }
+        Err(refused) => any_text::put_line(buf, 0, b"refused line", &[refused.line as u64]),
     }
-    put_log(buf, &rows, read.records, read.nodes, read.bound)
 }

@@ -1,24 +1,23 @@
 -- What the comparison names: two dependent records that stand in the other order, or a record that one list lacks. Assumes nothing.
 use Rattle.std.specs.Prelude.{◌≡◌, Bool, take}
 use Rattle.std.proofs.Math.Path.{refl}
-use Rattle.std.proofs.Common.{sym, ap, subst, ◌∙◌, arith}
+use Rattle.std.proofs.Common.{ap, subst, ◌∙◌, arith}
 use Rattle.std.proofs.Math.Option.{Option, none, some}
 use mathlib.Core.List.{List, [], ◌∷◌}
-use Prim.Native.Nat.{ℕ, zero, suc, ◌+◌, ◌≤◌}
+use Prim.Native.Nat.{ℕ, zero, suc, ◌+◌}
 use Rattle.rules.specs.Step.{Event}
 use Rattle.rules_exchange.specs.Independent.{independent}
 use Rattle.run_lists.specs.EventList.{node_count, record_count, record_at, records}
 use Rattle.merge_verdict.specs.Verdict.{Pulled, taken, blocked, missing}
 use Rattle.merge_verdict.specs.Steps.{same_refl}
 use Rattle.merge_letters.specs.Letters.{bit}
-use Rattle.merge_compare.specs.declared.Finding.{Finding}
+use Rattle.merge_compare.specs.declared.Verdict.{Verdict}
 use Rattle.any_search.specs.Places.{from, found, seek}
 use Rattle.merge_compare.specs.Compare.{same, order, only_first, only_second, free, equal, obstacle, looked, compare}
-use Rattle.merge_compare.specs.Compared.{comparison, compared}
-use Rattle.merge_compare.specs.Refusing.{both-good}
+use Rattle.merge_compare.specs.Compared.{comparison}
 use Rattle.merge_assured.specs.Assured.{times, Crossed, OrderNames, Lacked, OnlyNames}
 use Rattle.merge_assured.specs.Times.{times-next, same-sym}
-use Rattle.merge_assured.specs.Meaning.{verdict-of, comparable}
+use Rattle.merge_assured.specs.Meaning.{compared-as}
 use Rattle.merge_assured.specs.Blocked.{Rising, from-rising, sought-test, blocks, left_rising}
 use Rattle.merge_assured.specs.Sorts.{alike, own, sort, looking, first-left, none_left, Left, left-next, next-left, next-ahead, gone, none_ahead}
 
@@ -67,42 +66,42 @@ module _ (first second : List ℕ) where
       }
 
   -- What a finding names.
-  record Says (f : Finding) : Type 0 where
+  record Says (f : Verdict) : Type 0 where
     crossed : (a b a' b' : ℕ) → f ≡ order a b a' b' → Crossed first second a b a' b'
     lacked : (place : ℕ) → f ≡ only_first place → Lacked first second place
     lacked' : (place : ℕ) → f ≡ only_second place → Lacked second first place
 
   says_same : Says same
   says_same = record {
-    crossed = λ a b a' b' e. absurd (let z = verdict-of e in omega arith);
-    lacked = λ place e. absurd (let z = verdict-of e in omega arith);
-    lacked' = λ place e. absurd (let z = verdict-of e in omega arith);
+    crossed = λ a b a' b' e. absurd (cc);
+    lacked = λ place e. absurd (cc);
+    lacked' = λ place e. absurd (cc);
   }
 
   says-order : (a b a' b' : ℕ) → Crossed first second a b a' b' → Says (order a b a' b')
   says-order p f r s c = record {
     crossed = λ a b a' b' e.
-        let x : p ≡ a = (let z = ap (λ (g : Finding). g.p) e in omega arith) in
-        let y : f ≡ b = (let z = ap (λ (g : Finding). g.q) e in omega arith) in
-        let z : r ≡ a' = (let z = ap (λ (g : Finding). g.r) e in omega arith) in
-        let w : s ≡ b' = (let z = ap (λ (g : Finding). g.s) e in omega arith) in
+        let x : p ≡ a = (let same : p + 1 ≡ a + 1 = cc in omega arith) in
+        let y : f ≡ b = (let same : f + 1 ≡ b + 1 = cc in omega arith) in
+        let z : r ≡ a' = (let same : r + 1 ≡ a' + 1 = cc in omega arith) in
+        let w : s ≡ b' = (let same : s + 1 ≡ b' + 1 = cc in omega arith) in
         rw (← x, ← y, ← z, ← w) c;
-    lacked = λ place e. absurd (let z = verdict-of e in omega arith);
-    lacked' = λ place e. absurd (let z = verdict-of e in omega arith);
+    lacked = λ place e. absurd (cc);
+    lacked' = λ place e. absurd (cc);
   }
 
   says_first : (p : ℕ) → Lacked first second p → Says (only_first p)
   says_first p l = record {
-    crossed = λ a b a' b' e. absurd (let z = verdict-of e in omega arith);
-    lacked = λ place e. (let x : p ≡ place = (let z = ap (λ (g : Finding). g.p) e in omega arith) in subst (Lacked first second) x l);
-    lacked' = λ place e. absurd (let z = verdict-of e in omega arith);
+    crossed = λ a b a' b' e. absurd (cc);
+    lacked = λ place e. (let x : p ≡ place = (let same : p + 1 ≡ place + 1 = cc in omega arith) in subst (Lacked first second) x l);
+    lacked' = λ place e. absurd (cc);
   }
 
   says_second : (s : ℕ) → Lacked second first s → Says (only_second s)
   says_second s l = record {
-    crossed = λ a b a' b' e. absurd (let z = verdict-of e in omega arith);
-    lacked = λ place e. absurd (let z = verdict-of e in omega arith);
-    lacked' = λ place e. (let x : s ≡ place = (let z = ap (λ (g : Finding). g.s) e in omega arith) in subst (Lacked second first) x l);
+    crossed = λ a b a' b' e. absurd (cc);
+    lacked = λ place e. absurd (cc);
+    lacked' = λ place e. (let x : s ≡ place = (let same : s + 1 ≡ place + 1 = cc in omega arith) in subst (Lacked second first) x l);
   }
 
   -- No record of p's sort is left in the second list.
@@ -141,18 +140,15 @@ module _ (first second : List ℕ) where
       go (blocked s) i f = hindered p k qs h u left s i (seek (equal count here there p) qs) refl (seek (λ x. equal count here there x s) (from (suc p) k)) refl
       go missing i f = says_first p (lacks-second p k qs h left (none_left count here there p qs i))
 
-  -- Of the whole lists; and no refusal is a verdict.
+  -- Of the whole lists.
   compared-says : Says (comparison first second)
   compared-says = says n 0 (from 0 m) (omega arith) (from-rising 0 m) (λ e. refl)
 
-  as-comparison : 256 ≤ (compared first second).verdict → comparison first second ≡ compared first second
-  as-comparison h = let c = comparable first second h in sym (both-good first second c.one c.other c.nodes)
-
 pub order-names : OrderNames
-order-names first second a b a' b' e = (compared-says first second).crossed a b a' b' (as-comparison first second (let z = verdict-of e in omega arith) ∙ e)
+order-names first second a b a' b' e = (compared-says first second).crossed a b a' b' (compared-as first second e)
 
 pub only-names : OnlyNames
 only-names first second place = (
-  λ e. (compared-says first second).lacked place (as-comparison first second (let z = verdict-of e in omega arith) ∙ e),
-  λ e. (compared-says first second).lacked' place (as-comparison first second (let z = verdict-of e in omega arith) ∙ e),
+  λ e. (compared-says first second).lacked place (compared-as first second e),
+  λ e. (compared-says first second).lacked' place (compared-as first second e),
 )

@@ -1,7 +1,7 @@
 -- What the verdict on two lists of bytes means: it is `same` exactly where exchanges of independent neighbours lead from the records of the one list to those of
 -- the other; and then running them gives the same. `Meaning` proves both, `Names` what the places say, `Uncrossed` that lists which are the same have
 -- no such places. Assumes nothing.
-use Rattle.std.specs.Prelude.{◌≡◌, ◌↔◌, false, List, ℕ, ◌+◌, ◌≤◌, ◌<◌, length, take}
+use Rattle.std.specs.Prelude.{◌≡◌, ◌↔◌, false, List, ℕ, ◌+◌, ◌≤◌, ◌<◌, length, take, Ok}
 use Rattle.rules.specs.Codes.{out_too_short}
 use Rattle.rules.specs.Step.{Event}
 use Rattle.rules_exchange.specs.Independent.{independent}
@@ -42,7 +42,7 @@ pub record Merges (first second : List ℕ) : Type 0 where
   pub remerged : Remerged first second places
 
 abbrev pub SameMeans : Type 0
-SameMeans = (first second : List ℕ) → (compared first second ≡ same) ↔ Merges first second
+SameMeans = (first second : List ℕ) → (compared first second ≡ Ok same) ↔ Merges first second
 
 -- Both lists are run, each with a buffer that holds `out`: the record at place p of the first stands in the second, and has there the answer that it had.
 pub record Keeps (first second out : List ℕ) (p : ℕ) : Type 0 where
@@ -59,11 +59,11 @@ pub record Assured (first second out : List ℕ) : Type 0 where
 
 -- For every buffer that is long enough.
 abbrev pub SameAssures : Type 0
-SameAssures = (first second out : List ℕ) → record_count first + history_room ≤ length out → (compared first second ≡ same) ↔ Assured first second out
+SameAssures = (first second out : List ℕ) → record_count first + history_room ≤ length out → (compared first second ≡ Ok same) ↔ Assured first second out
 
 -- In a shorter one neither is run, and it stays as it was.
 abbrev pub SameShort : Type 0
-SameShort = (first second out : List ℕ) → length out < record_count first + history_room → compared first second ≡ same
+SameShort = (first second out : List ℕ) → length out < record_count first + history_room → compared first second ≡ Ok same
     → (ran first out ≡ record { returned = out_too_short; out = out }) × (ran second out ≡ record { returned = out_too_short; out = out })
 
 -- ---- what is named
@@ -77,11 +77,11 @@ pub record Crossed (first second : List ℕ) (a b a' b' : ℕ) : Type 0 where
   pub behind : b' < a'
 
 abbrev pub OrderNames : Type 0
-OrderNames = (first second : List ℕ) (a b a' b' : ℕ) → compared first second ≡ order a b a' b' → Crossed first second a b a' b'
+OrderNames = (first second : List ℕ) (a b a' b' : ℕ) → compared first second ≡ Ok (order a b a' b') → Crossed first second a b a' b'
 
 -- No lists that are the same have such records.
 abbrev pub SameUncrossed : Type 0
-SameUncrossed = (first second : List ℕ) (a b a' b' : ℕ) → compared first second ≡ same → Crossed first second a b a' b' → ⊥
+SameUncrossed = (first second : List ℕ) (a b a' b' : ℕ) → compared first second ≡ Ok same → Crossed first second a b a' b' → ⊥
 
 -- The other list has no more of the record at a place than come before it.
 pub record Lacked (list other : List ℕ) (place : ℕ) : Type 0 where
@@ -90,5 +90,5 @@ pub record Lacked (list other : List ℕ) (place : ℕ) : Type 0 where
 
 abbrev pub OnlyNames : Type 0
 OnlyNames = (first second : List ℕ) (place : ℕ)
-    → (compared first second ≡ only_first place → Lacked first second place)
-    × (compared first second ≡ only_second place → Lacked second first place)
+    → (compared first second ≡ Ok (only_first place) → Lacked first second place)
+    × (compared first second ≡ Ok (only_second place) → Lacked second first place)

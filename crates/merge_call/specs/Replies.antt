@@ -6,26 +6,25 @@ use borrow.Author.Tests.{eq-eqb, ne_eqb, le-leb, lt-leb}
 use Rattle.rules.specs.Codes.{out_too_short}
 use Rattle.run_lists.specs.EventList.{refusal, over}
 use Rattle.run_lists.specs.Written.{over-more}
-use Rattle.merge_compare.specs.declared.Finding.{Finding}
 use Rattle.merge_compare.specs.Compared.{compared}
-use Rattle.merge_call.specs.Reply.{places_length, two_bytes, place_bytes, Reply, given, reply}
+use Rattle.merge_call.specs.Reply.{places_length, two_bytes, four_places, Reply, given, reply}
 
 -- ---- the bytes
 
 pub two-stores : (l : List ℕ) (at a b : ℕ) → set (set l at a) (at + 1) b ≡ sets l at (a ∷ b ∷ [])
 two-stores l at a b = rw (add-one at)
 
-pub four-places : (f : Finding) (l : List ℕ) → places_length ≤ length l
-    → sets (sets (sets (sets l 0 (two_bytes f.p)) 2 (two_bytes f.q)) 4 (two_bytes f.r)) 6 (two_bytes f.s) ≡ over (place_bytes f) l
-four-places f l h =
-    let p = two_bytes f.p in
-    let q = two_bytes f.q in
-    let r = two_bytes f.r in
-    let s = two_bytes f.s in
-    ap (λ (x : List ℕ). sets (sets (sets x 2 q) 4 r) 6 s) (over-more [] p l (omega arith))
-    ∙ ap (λ (x : List ℕ). sets (sets x 4 r) 6 s) (over-more p q l (omega arith))
-    ∙ ap (λ (x : List ℕ). sets x 6 s) (over-more (p ++ q) r l (omega arith))
-    ∙ over-more (p ++ q ++ r) s l (omega arith)
+pub four-places : (p q r s : ℕ) (l : List ℕ) → places_length ≤ length l
+    → sets (sets (sets (sets l 0 (two_bytes p)) 2 (two_bytes q)) 4 (two_bytes r)) 6 (two_bytes s) ≡ over (four_places p q r s) l
+four-places p q r s l h =
+    let a = two_bytes p in
+    let b = two_bytes q in
+    let c = two_bytes r in
+    let d = two_bytes s in
+    ap (λ (x : List ℕ). sets (sets (sets x 2 b) 4 c) 6 d) (over-more [] a l (omega arith))
+    ∙ ap (λ (x : List ℕ). sets (sets x 4 c) 6 d) (over-more a b l (omega arith))
+    ∙ ap (λ (x : List ℕ). sets x 6 d) (over-more (a ++ b) c l (omega arith))
+    ∙ over-more (a ++ b ++ c) d l (omega arith)
 
 -- ---- the answers
 
@@ -39,16 +38,9 @@ module _ (first second out : List ℕ) where
     unfolding reply
     reply-first h = simp (lt-leb places_length (length out) short, ne_eqb (refusal first) 0 h)
 
-  module _ (long : places_length ≤ length out) where
-    long-reply : reply first second out ≡ given (compared first second) out
-    unfolding reply
-    long-reply = simp (le-leb places_length (length out) long)
-
-    pub reply-places : 256 ≤ (compared first second).verdict → reply first second out ≡ record { returned = (compared first second).verdict; places = over (place_bytes (compared first second)) out }
-    reply-places h = long-reply ∙ simp (le-leb 256 (compared first second).verdict h)
-
-    pub reply-refused : (compared first second).verdict < 256 → reply first second out ≡ record { returned = (compared first second).verdict; places = out }
-    reply-refused h = long-reply ∙ simp (lt-leb 256 (compared first second).verdict h)
+  pub reply-long : places_length ≤ length out → reply first second out ≡ given (compared first second) out
+  unfolding reply
+  reply-long long = simp (le-leb places_length (length out) long)
 
 -- What is returned and the places, each by itself.
 pub reply-both : {t u : Reply} → t ≡ u → (u.returned ≡ t.returned) × (u.places ≡ t.places)

@@ -7,11 +7,11 @@ use Rattle.merge_verdict.specs.Verdict.{same_event}
 use Rattle.any_search.specs.Places.{from, seek}
 use Rattle.any_search.specs.Seek.{Sought, seek-some, seek-none}
 use Rattle.merge_compare.specs.Compare.{order, only_first, only_second, equal, obstacle}
-use Rattle.merge_compare.specs.declared.Finding.{Finding}
+use Rattle.merge_compare.specs.declared.Verdict.{Verdict}
 use Rattle.merge_compare.specs.Left.{seek-row}
 
 -- Record a of the first list may not pass record b of the second, of which the row from a on has what is left.
-abbrev pub hindrance : ℕ → (ℕ → Event) → (ℕ → Event) → ℕ → List ℕ → ℕ → ℕ → Finding
+abbrev pub hindrance : ℕ → (ℕ → Event) → (ℕ → Event) → ℕ → List ℕ → ℕ → ℕ → Verdict
 hindrance count here there n places a b =
     obstacle count here there a b (seek (equal count here there a) (drop a places)) (seek (λ x. equal count here there x b) (from (suc a) (n - (a + 1))))
 

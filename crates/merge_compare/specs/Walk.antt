@@ -11,7 +11,7 @@ use Rattle.merge_letters.specs.Table.{passes-free}
 use Rattle.any_search.specs.Places.{from}
 use Rattle.any_search.specs.Seek.{Sought, seek-as}
 use Rattle.merge_compare.specs.Compare.{same, only_first, only_second, free, equal, looked, compare}
-use Rattle.merge_compare.specs.declared.Finding.{Finding}
+use Rattle.merge_compare.specs.declared.Verdict.{Verdict}
 use Rattle.merge_places.specs.Row.{Placed, Moved, is_stop}
 use Rattle.any_search.specs.Holds.{Holds}
 use Rattle.merge_places.specs.Filling.{length_from, get_d-from}
@@ -26,11 +26,11 @@ module _ (count : ℕ) (here there : ℕ → Event) (n m : ℕ) where
   abbrev alike : ℕ → ℕ → Bool
   alike = equal count here there
 
-  abbrev compares : List ℕ → List ℕ → Finding
+  abbrev compares : List ℕ → List ℕ → Verdict
   compares = compare count here there
 
   -- What is to be found.
-  abbrev pub whole : Finding
+  abbrev pub whole : Verdict
   whole = compares (from 0 n) (from 0 m)
 
   -- The first j records are taken; the row from j on has the places of what is left.

@@ -6,6 +6,8 @@ ghost use Rattle.rules.specs.Queues.{has};
 ghost use Rattle.rules_exchange.specs.Independent as L;
 ghost use Rattle.merge_independence.specs.Asks.{event};
 
+use step_parts::Kind;
+
 // ---- the groups of kinds that the list speaks of
 
 // Whether the kind is one of two.
@@ -18,25 +20,25 @@ fn one_of(kind: u8, one: u8, other: u8) -> bool
 fn is_service(kind: u8) -> bool
     ensures { result ≡ has kind L.service_kinds }
 {
-    one_of(kind, step_parts::JOIN, step_parts::LEAVE)
+    one_of(kind, Kind::Join as u8, Kind::Leave as u8)
 }
 
 fn is_learn(kind: u8) -> bool
     ensures { result ≡ has kind L.learn_kinds }
 {
-    kind == step_parts::LEARN
+    kind == Kind::Learn as u8
 }
 
 fn is_send(kind: u8) -> bool
     ensures { result ≡ has kind L.send_kinds }
 {
-    one_of(kind, step_parts::SEND_UPDATE, step_parts::SEND_WRITE)
+    one_of(kind, Kind::SendUpdate as u8, Kind::SendWrite as u8)
 }
 
 fn is_receive(kind: u8) -> bool
     ensures { result ≡ has kind L.receive_kinds }
 {
-    one_of(kind, step_parts::RECEIVE_UPDATE, step_parts::RECEIVE_WRITE)
+    one_of(kind, Kind::ReceiveUpdate as u8, Kind::ReceiveWrite as u8)
 }
 
 fn is_message(kind: u8) -> bool
@@ -55,23 +57,23 @@ fn is_node_kind(kind: u8) -> bool
 fn is_quiet(kind: u8) -> bool
     ensures { result ≡ has kind L.quiet_kinds }
 {
-    one_of(kind, step_parts::CONNECT, step_parts::HANDLE_WRITE)
+    one_of(kind, Kind::Connect as u8, Kind::HandleWrite as u8)
 }
 
 // The steps of the switch on one stream.
 fn is_stream(kind: u8) -> bool
     ensures { result ≡ has kind L.stream_kinds }
 {
-    (kind == step_parts::CONNECT)
-        | (kind == step_parts::CLOSE)
-        | (kind == step_parts::HANDLE_UPDATE)
-        | (kind == step_parts::HANDLE_WRITE)
+    (kind == Kind::Connect as u8)
+        | (kind == Kind::Close as u8)
+        | (kind == Kind::HandleUpdate as u8)
+        | (kind == Kind::HandleWrite as u8)
 }
 
 fn is_switch(kind: u8) -> bool
     ensures { result ≡ has kind L.switch_kinds }
 {
-    is_stream(kind) | (kind == step_parts::SHUTDOWN) | (kind == step_parts::STARTUP)
+    is_stream(kind) | (kind == Kind::Shutdown as u8) | (kind == Kind::Startup as u8)
 }
 
 // ---- the list
@@ -80,16 +82,13 @@ fn is_switch(kind: u8) -> bool
 fn exists(nodes: u8, kind: u8, node: u8) -> bool
     ensures { result ≡ L.exists nodes (event kind node) }
 {
-    if kind == 0 {
+    let Ok(kind) = Kind::try_from(kind) else {
         return false;
+    };
+    match kind {
+        Kind::Shutdown | Kind::Startup => node == 0,
+        _ => step_parts::is_node(nodes, node),
     }
-    if kind < step_parts::SHUTDOWN {
-        return step_parts::is_node(nodes, node);
-    }
-    if kind <= step_parts::STARTUP {
-        return node == 0;
-    }
-    false
 }
 
 // One of the lines (a) to (f) names the two steps, in this order.

@@ -12,10 +12,8 @@ pub const TABLE_SIZE: usize = 32768;
 pub fn letter(kind: u8, node: u8) -> u8
     ensures { result ≡ letter_of (event kind node) }
 {
-    if kind < 14 {
-        if node < 9 {
-            return 9 * kind + node;
-        }
+    if kind < 14 && node < 9 {
+        return 9 * kind + node;
     }
     0
 }
@@ -34,10 +32,7 @@ fn entry(nodes: u8, at: usize) -> u8
         (b / 9) as u8,
         (b % 9) as u8,
     );
-    if free {
-        return 1;
-    }
-    0
+    u8::from(free)
 }
 
 // Fills the table for `nodes` nodes.
@@ -45,9 +40,7 @@ pub fn fill_table(nodes: u8, table: &mut [u8])
     requires { length table.old ≡ table_size }
     ensures { TableFor nodes table.new }
 {
-    let mut i: usize = 0;
-    while i < table.len() {
-        table[i] = entry(nodes, i);
-        i += 1;
+    for (i, place) in table.iter_mut().enumerate() {
+        *place = entry(nodes, i);
     }
 }

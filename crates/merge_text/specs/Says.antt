@@ -4,44 +4,14 @@ use Rattle.std.proofs.Math.Path.{sym}
 use borrow.Author.Tests.{eq-eqb, ne_eqb}
 use Rattle.run_lists.specs.EventList.{node_count, refusal}
 use Rattle.any_text.specs.Put.{Put}
-use Rattle.merge_compare.specs.declared.Finding.{Finding}
 use Rattle.merge_compare.specs.Compared.{comparison}
-use Rattle.run_difference.specs.declared.Parting.{Parting}
 use Rattle.any_text.specs.Line.{line}
 use Rattle.merge_text.specs.Words as W
-use Rattle.merge_text.specs.Report.{verdict_line, parting_line, runs_text, report}
+use Rattle.merge_text.specs.Report.{verdict_line, runs_text, report}
 
 -- The same bytes, by another name.
 pub put_as : {l a b m : List ℕ} {at i : ℕ} → a ≡ b → Put l at a m i → Put l at b m i
 put_as e p = rw (← e) p
-
-module _ (f : Finding) where
-  pub says_same : f.verdict ≡ 256 → line W.same [] ≡ verdict_line f
-  unfolding verdict_line
-  says_same e = sym (simp (eq-eqb f.verdict 256 e))
-
-  module _ (n : f.verdict ≢ 256) where
-    pub says-order : f.verdict ≡ 257 → line W.order (f.p ∷ f.q ∷ f.r ∷ f.s ∷ []) ≡ verdict_line f
-    unfolding verdict_line
-    says-order e = sym (simp (ne_eqb f.verdict 256 n, eq-eqb f.verdict 257 e))
-
-    module _ (m : f.verdict ≢ 257) where
-      pub says_first : f.verdict ≡ 258 → line W.only_first (f.p ∷ []) ≡ verdict_line f
-      unfolding verdict_line
-      says_first e = sym (simp (ne_eqb f.verdict 256 n, ne_eqb f.verdict 257 m, eq-eqb f.verdict 258 e))
-
-      pub says_second : f.verdict ≢ 258 → line W.only_second (f.s ∷ []) ≡ verdict_line f
-      unfolding verdict_line
-      says_second e = sym (simp (ne_eqb f.verdict 256 n, ne_eqb f.verdict 257 m, ne_eqb f.verdict 258 e))
-
-module _ (d : Parting) where
-  pub says-agrees : d.at ≡ 0 → line W.agrees [] ≡ parting_line d
-  unfolding parting_line
-  says-agrees e = sym (simp (eq-eqb d.at 0 e))
-
-  pub says-differs : d.at ≢ 0 → line W.differs (d.at ∷ d.one.node ∷ d.one.term.0 ∷ d.other.node ∷ d.other.term.0 ∷ []) ≡ parting_line d
-  unfolding parting_line
-  says-differs e = sym (simp (ne_eqb d.at 0 e))
 
 module _ (first second : List ℕ) where
   pub says-refused-first : refusal first ≢ 0 → line W.refused_first (refusal first ∷ []) ≡ report first second

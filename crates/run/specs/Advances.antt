@@ -11,9 +11,8 @@ use Rattle.rules_laws.specs.RangeTest.{range-sound, range-complete}
 use Rattle.rules_laws.specs.Tests.{is-yes}
 use Rattle.step_state.specs.Hold.{hold_core, pack_core, hold, represent}
 use Rattle.step_state.specs.declared.Body.{Body}
-use Rattle.step_state.specs.declared.Moved.{Moved}
 use Rattle.step_bridge.specs.Held.{hold-represent}
-use Rattle.step_moves.specs.Bodies.{state_of, body_of, Ready, Leaves}
+use Rattle.step_moves.specs.Bodies.{state_of, body_of, Ready, Leaves, Left}
 
 module _ (s : S.State) (fits : T (in_range s)) where
   core-back : hold_core s.count (pack_core s.core) ≡ s.core
@@ -31,11 +30,11 @@ module _ (s : S.State) (fits : T (in_range s)) where
       same = ap body_of (state-back []);
     })
 
-    pub advances : (kind node : ℕ) (m : Moved) → Leaves node s.history (of_kind (kind_of kind) node (state_of b s.history)) m
-        → Leaves node s.history (step (record { kind = kind; node = node }) s) m
+    pub advances : (kind node : ℕ) (m : Left) → Leaves s.history (of_kind (kind_of kind) node (state_of b s.history)) m
+        → Leaves s.history (step (record { kind = kind; node = node }) s) m
     unfolding step
     advances kind node m l =
         let e : Event = record { kind = kind; node = node } in
         let same : state_of b s.history ≡ s = ap (λ (x : Body). state_of x s.history) holds ∙ state-back s.history in
-        subst (λ (t : Result ℕ S.State). Leaves node s.history t m)
+        subst (λ (t : Result ℕ S.State). Leaves s.history t m)
         (ap (λ (t : S.State). of_kind (kind_of kind) node t) same ∙ ap (λ (x : Bool). of_state x e s) (sym ((is-yes (in_range s)).to fits))) l

@@ -1,8 +1,8 @@
 -- A run that has passed the first i records: what the locals of the loop hold, and one record more. Assumes nothing.
-use Rattle.std.specs.Prelude.{◌≡◌, refl, Bool, true, false, cond, ℕ, ◌+◌, ◌*◌, ◌≤◌, ◌<◌, T, set, take}
+use Rattle.std.specs.Prelude.{◌≡◌, refl, Option, Some, None, OnSome, ℕ, ◌+◌, ◌*◌, ◌≤◌, ◌<◌, T, set, take}
 use Rattle.std.proofs.Math.Path.{sym, ap, ap₂}
 use Rattle.std.proofs.Common.{◌∙◌, length-take-le}
-use mathlib.Core.List.{List, [], ◌∷◌, ◌++◌, append-nil}
+use mathlib.Core.List.{List, ◌++◌, append-nil}
 use native.Mathlib.Omega.{arith}
 use Rattle.std.proofs.Math.ListN.{length, length-append}
 use Rattle.std.proofs.Math.Seq.{sets}
@@ -16,11 +16,13 @@ use Rattle.rules.specs.Run.{run}
 use Rattle.rules_laws.specs.RangeTest.{range-sound}
 use Rattle.rules_laws.specs.Runs.{run-state, run-answer, run_length}
 use Rattle.rules_laws.specs.Steps.{step_keeps, run-keeps, fresh-fits}
+use Rattle.step_parts.specs.Hold.{hold_write}
+use Rattle.step_parts.specs.declared.Write as P
+use Rattle.step_state.specs.Stores.{hold_accepted}
 use Rattle.step_state.specs.declared.Body.{Body}
-use Rattle.step_state.specs.declared.Moved.{Moved}
-use Rattle.step_moves.specs.Bodies.{state_of, body_of, Ready, accepted_in, Leaves}
+use Rattle.step_moves.specs.Bodies.{state_of, body_of, Ready, Leaves, Left}
 use Rattle.run_lists.specs.EventList.{node_count, record_count, record_at, records, history_bytes, over}
-use Rattle.run_lists.specs.Good.{good, records-length, records-more, records-all}
+use Rattle.run_lists.specs.Good.{records-length, records-more, records-all}
 use Rattle.run_lists.specs.Written.{filled, filled_none, filled-length, filled-answer, filled-entry, filled-all}
 use Rattle.run_lists.specs.Trails.{Trails}
 use Rattle.run_lists.specs.declared.Trailer.{Trailer}
@@ -29,17 +31,13 @@ use Rattle.run.specs.Advances as A
 
 -- ---- what a run rests on
 
--- The write of a step, if it was accepted.
-abbrev pub if_accepted : Bool → Write → List Write
-if_accepted b w = cond b (w ∷ []) []
-
--- Its entry, in a buffer that a run fills.
-pub filled-accepted : (total : ℕ) (out : List ℕ) → total ≤ length out → (answers : List ℕ) (ws : List Write) (b : Bool) (w : Write) → length answers ≤ total
-    → (b ≡ true → total + 4 * length ws + 4 ≤ length out)
-    → sets (filled total answers ws out) (total + 4 * length ws) (history_bytes (if_accepted b w)) ≡ filled total answers (ws ++ if_accepted b w) out
+-- The entry of a step's write, if it accepted one, in a buffer that a run fills.
+pub filled-accepted : (total : ℕ) (out : List ℕ) → total ≤ length out → (answers : List ℕ) (ws : List Write) (o : Option P.Write) → length answers ≤ total
+    → OnSome o (total + 4 * length ws + 4 ≤ length out)
+    → sets (filled total answers ws out) (total + 4 * length ws) (history_bytes (hold_accepted o)) ≡ filled total answers (ws ++ hold_accepted o) out
 unfolding history_bytes push
-filled-accepted total out h answers ws true w k room = filled-entry total out h answers ws w k (room refl)
-filled-accepted total out h answers ws false w k room = ap (λ (l : List Write). filled total answers l out) (sym (append-nil ws))
+filled-accepted total out h answers ws (Some w) k room = filled-entry total out h answers ws (hold_write w) k room
+filled-accepted total out h answers ws None k room = ap (λ (l : List Write). filled total answers l out) (sym (append-nil ws))
 
 -- The list is not refused, the trailer is its own, and the buffer of `size` bytes is long enough.
 pub record Runs (list : List ℕ) (t : Trailer) (size : ℕ) : Type 0 where
@@ -80,27 +78,31 @@ module _ {list : List ℕ} {t : Trailer} (out₀ : List ℕ) (runs : Runs list t
     pub ready : Ready b
     ready = A.ready (after list i).state (fits i) b now.body
 
-    module _ {e : Event} {m : Moved} (is : e ≡ record_at list i)
-        (leaves : (history : List Write) → length history ≡ n → Leaves e.node history (of_kind (kind_of e.kind) e.node (state_of b history)) m) where
+    module _ {e : Event} {m : Left} (is : e ≡ record_at list i)
+        (leaves : (history : List Write) → length history ≡ n → Leaves history (of_kind (kind_of e.kind) e.node (state_of b history)) m) where
       s : State
       s = (after list i).state
 
-      left : Leaves e.node s.history (step e s) m
+      left : Leaves s.history (step e s) m
       unfolding s
       left = A.advances s (fits i) b now.body e.kind e.node m (leaves s.history (sym now.writes))
 
-      pub room-left : m.accepted ≡ true → n < history_length
+      room_for : (o : Option P.Write) → m.accepted ≡ o → OnSome o (n < history_length)
       unfolding s
-      room-left z =
+      room_for None z = tt
+      room_for (Some w) z =
           let short = (range-sound (step e s).state (step_keeps e s (fits i))).history-size in
-          let grown = ap length left.history-grows ∙ length-append s.history (accepted_in e.node m) in
-          let one : length (accepted_in e.node m) ≡ 1 = ap (λ (b : Bool). length (if_accepted b (record { node = e.node; term = m.term.0 }))) z in
+          let grown = ap length left.history-grows ∙ length-append s.history (hold_accepted m.accepted) in
+          let one : length (hold_accepted m.accepted) ≡ 1 = ap (λ (o : Option P.Write). length (hold_accepted o)) z in
           let k = now.writes in
           omega arith
 
+      pub room-left : OnSome m.accepted (n < history_length)
+      room-left = room_for m.accepted refl
+
       pub goes_on : i < record_count list → {out' : List ℕ}
-          → out' ≡ sets (set out i m.code) (t.records + 4 * n) (history_bytes (if_accepted m.accepted (record { node = e.node; term = m.term.0 })))
-          → {n' : ℕ} → n' ≡ n + length (if_accepted m.accepted (record { node = e.node; term = m.term.0 }))
+          → out' ≡ sets (set out i m.code) (t.records + 4 * n) (history_bytes (hold_accepted m.accepted))
+          → {n' : ℕ} → n' ≡ n + length (hold_accepted m.accepted)
           → Running list out₀ (i + 1) out' m.body n'
       unfolding s
       goes_on lt f g = record {
@@ -113,13 +115,12 @@ module _ {list : List ℕ} {t : Trailer} (out₀ : List ℕ) (runs : Runs list t
             ∙ ap (λ (k : ℕ). sets (set (filled (record_count list) (after list i).answer s.history out₀) k m.code) (record_count list + 4 * length s.history) (history_bytes ws)) (sym (passed i (omega arith)))
             ∙ ap (λ (l : List ℕ). sets l (record_count list + 4 * length s.history) (history_bytes ws))
             (filled-answer (record_count list) out₀ (omega arith) (after list i).answer s.history m.code (let p = passed i (omega arith) in omega arith))
-            ∙ filled-accepted (record_count list) out₀ (omega arith) (push m.code (after list i).answer) s.history m.accepted _ fit
-            (λ z. let k = room-left z in let w = now.writes in omega arith)
+            ∙ filled-accepted (record_count list) out₀ (omega arith) (push m.code (after list i).answer) s.history m.accepted fit (entry-fits m.accepted room-left)
             ∙ ap₂ (λ (answers : List ℕ) (l : List Write). filled (record_count list) answers l out₀) (sym more-answers) (sym more-history);
       }
         where
           ws : List Write
-          ws = if_accepted m.accepted (record { node = e.node; term = m.term.0 })
+          ws = hold_accepted m.accepted
 
           one_more : take (i + 1) (records list) ≡ push e (take i (records list))
           one_more = records-more list i lt ∙ ap (λ (x : Event). push x (take i (records list))) (sym is)
@@ -134,6 +135,10 @@ module _ {list : List ℕ} {t : Trailer} (out₀ : List ℕ) (runs : Runs list t
 
           more-history : (after list (i + 1)).state.history ≡ s.history ++ ws
           more-history = ap (λ (x : State). x.history) more-state ∙ left.history-grows
+
+          entry-fits : (o : Option P.Write) → OnSome o (n < history_length) → OnSome o (record_count list + 4 * length s.history + 4 ≤ length out₀)
+          entry-fits None z = tt
+          entry-fits (Some w) z = let k = z in let w = now.writes in omega arith
 
           fit : length (push m.code (after list i).answer) ≤ record_count list
           fit = let p = passed (i + 1) (omega arith) in let q = ap length more-answers in omega arith

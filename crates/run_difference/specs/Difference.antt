@@ -1,9 +1,10 @@
 -- The first entry in which two histories differ.
-use Rattle.std.specs.Prelude.{Bool, true, false, cond, ◌&&◌, List, [], ◌∷◌, ℕ, suc, ◌+◌, eqb, length, get_or}
+use Rattle.std.specs.Prelude.{Bool, true, false, cond, ◌&&◌, List, [], ◌∷◌, ℕ, zero, suc, ◌+◌, eqb, length, Option, None, Some}
 use Rattle.rules.specs.State.{Write}
 use Rattle.any_list.specs.Arrays.{table}
+use Rattle.step_parts.specs.declared.Write as P
 use Rattle.step_parts.specs.Hold.{pack_write}
-use Rattle.run_lists.specs.Entries.{entry_at, no_write}
+use Rattle.run_lists.specs.Entries.{entry_at}
 use Rattle.run.specs.Ran.{whole_run}
 use Rattle.run_difference.specs.declared.Parting.{Parting}
 
@@ -26,18 +27,20 @@ common [] vs = 0
 common (w ∷ ws) [] = 0
 common (w ∷ ws) (v ∷ vs) = one_more (same_write w v) (common ws vs)
 
-abbrev pub agrees : Parting
-agrees = record { at = 0; one = pack_write no_write; other = pack_write no_write }
+-- The entry that i others stand before, if there is one.
+abbrev pub entry_in : List Write → ℕ → Option P.Write
+entry_in [] i = None
+entry_in (w ∷ ws) zero = Some (pack_write w)
+entry_in (w ∷ ws) (suc i) = entry_in ws i
 
--- The entry that i others stand before.
 abbrev pub differs_at : ℕ → List Write → List Write → Parting
-differs_at i ws vs = record { at = i + 1; one = pack_write (get_or ws i no_write); other = pack_write (get_or vs i no_write) }
+differs_at i ws vs = record { at = i + 1; one = entry_in ws i; other = entry_in vs i }
 
-unfoldable pub difference : List Write → List Write → Parting
+unfoldable pub difference : List Write → List Write → Option Parting
 difference ws vs =
     cond (eqb (common ws vs) (length ws) && eqb (common ws vs) (length vs))
-    agrees
-    (differs_at (common ws vs) ws vs)
+    None
+    (Some (differs_at (common ws vs) ws vs))
 
 -- ---- histories as bytes
 

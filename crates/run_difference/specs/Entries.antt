@@ -1,17 +1,16 @@
 -- Entries in common, one after another; and the entries that a run has written are those of its history. Assumes nothing.
-use Rattle.std.specs.Prelude.{◌≡◌, refl, Bool, true, false, cond, ◌&&◌, List, [], ◌∷◌, ◌++◌, ℕ, zero, suc, ◌+◌, ◌≤◌, ◌<◌, eqb, length, get_or}
-use Rattle.std.proofs.Common.{sym, ap, ap₂, ◌∙◌, arith}
+use Rattle.std.specs.Prelude.{◌≡◌, refl, Bool, true, false, cond, ◌&&◌, List, [], ◌∷◌, ◌++◌, ℕ, zero, suc, ◌+◌, ◌≤◌, ◌<◌, eqb, length, None, Some}
+use Rattle.std.proofs.Common.{sym, ap, ◌∙◌, arith}
 use Rattle.std.proofs.Math.Decide.{dec_lt}
-use Rattle.std.proofs.Math.ListN.{get_or-eq_default}
 use Rattle.rules.specs.State.{Write}
 use Rattle.any_list.specs.Arrays.{table}
-use Rattle.any_list.specs.Tables.{table-get, table_of, table-length}
+use Rattle.any_list.specs.Tables.{table_of, table-length}
 use Rattle.step_parts.specs.declared.Write as P
 use Rattle.step_parts.specs.Hold.{hold_write, pack_write}
 use Rattle.run_lists.specs.EventList.{history_bytes}
 use Rattle.run_lists.specs.Written.{entry_read}
 use Rattle.run_lists.specs.Entries.{entry_at, no_write}
-use Rattle.run_difference.specs.Difference.{same_write, one_more, common, agrees, differs_at, difference, entries}
+use Rattle.run_difference.specs.Difference.{same_write, one_more, common, entry_in, differs_at, difference, entries}
 
 -- ---- in common
 
@@ -52,11 +51,21 @@ written ws l = sym (table_of (length ws) (entry_at (history_bytes ws ++ l)) ws n
 
 -- ---- one entry, or none
 
-pub entry-inside : (part : List ℕ) (n i : ℕ) → i < n → entry_at part i ≡ get_or (entries part n) i no_write
-entry-inside part n i h = sym (table-get n (entry_at part) i no_write h)
+in-table : (n : ℕ) (f : ℕ → Write) (i : ℕ) → i < n → entry_in (table n f) i ≡ Some (pack_write (f i))
+in-table zero f i h = absurd (omega arith)
+in-table (suc n) f zero h = refl
+in-table (suc n) f (suc i) h = in-table n (λ k. f (suc k)) i (omega arith)
 
-pub entry-beyond : (part : List ℕ) (n i : ℕ) → n ≤ i → no_write ≡ get_or (entries part n) i no_write
-entry-beyond part n i h = sym (get_or-eq_default (entries part n) no_write (let z = table-length n (entry_at part) in omega arith))
+past-table : (n : ℕ) (f : ℕ → Write) (i : ℕ) → n ≤ i → entry_in (table n f) i ≡ None
+past-table zero f i h = refl
+past-table (suc n) f zero h = absurd (omega arith)
+past-table (suc n) f (suc i) h = past-table n (λ k. f (suc k)) i (omega arith)
+
+pub entry-inside : {a : P.Write} (part : List ℕ) (n i : ℕ) → hold_write a ≡ entry_at part i → i < n → Some a ≡ entry_in (entries part n) i
+entry-inside part n i e h = ap (λ (w : Write). Some (pack_write w)) e ∙ sym (in-table n (entry_at part) i h)
+
+pub entry-beyond : (part : List ℕ) (n i : ℕ) → n ≤ i → None ≡ entry_in (entries part n) i
+entry-beyond part n i h = sym (past-table n (entry_at part) i h)
 
 -- ---- the difference, by the test that the code makes
 
@@ -71,9 +80,6 @@ common-le (w ∷ ws) (v ∷ vs) = go (same_write w v) (common-le ws vs)
     go false h = omega arith
 
 pub parted : (one : List ℕ) (n : ℕ) (other : List ℕ) (m i : ℕ) → i ≡ common (entries one n) (entries other m) → (b : Bool) → (eqb i n && eqb i m) ≡ b
-    → difference (entries one n) (entries other m) ≡ cond b agrees (differs_at i (entries one n) (entries other m))
+    → difference (entries one n) (entries other m) ≡ cond b None (Some (differs_at i (entries one n) (entries other m)))
 unfolding difference
 parted one n other m i is b test = rw (← is, table-length n (entry_at one), table-length m (entry_at other), test)
-
-pub differs-in : (ws vs : List Write) (i : ℕ) {a b : P.Write} → hold_write a ≡ get_or ws i no_write → hold_write b ≡ get_or vs i no_write → record { at = i + 1; one = a; other = b } ≡ differs_at i ws vs
-differs-in ws vs i p q = ap₂ (λ (a b : Write). record { at = i + 1; one = pack_write a; other = pack_write b }) p q

@@ -1,40 +1,29 @@
 // Where two histories first differ, read from the buffers that two runs have filled.
 #![tactic(auto)]
 
-ghost use Rattle.std.specs.Prelude.{◌≡◌, ◌*◌, ◌≤◌, length, get_or};
+ghost use Rattle.std.specs.Prelude.{◌≡◌, ◌*◌, ◌≤◌, length};
 ghost use Rattle.rules.specs.Limits.{history_length};
-ghost use Rattle.run_lists.specs.Entries.{no_write};
-ghost use Rattle.run_difference.specs.Difference.{same_write, entries, common, difference};
-ghost use Rattle.step_parts.specs.Hold.{hold_write};
+ghost use Rattle.run_difference.specs.Difference.{entries, entry_in, common, difference};
 
-use step_parts::{Term, Write};
+use step_parts::Write;
 
-// The place, from 1, of the first entry in which two histories differ, and that entry in each: 0 and 0 where a history has no such entry. All 0 where they agree.
+// The place, from 1, of the first entry in which two histories differ, and that entry in each, if the history has it.
 #[derive(Clone, Copy)]
 pub struct Parting {
     pub at: u32,
-    pub one: Write,
-    pub other: Write,
+    pub one: Option<Write>,
+    pub other: Option<Write>,
 }
 
-// Entry number i of n, or none.
-fn entry_of(part: &[u8], n: usize, i: usize) -> Write
+// Entry number i of n.
+fn entry_of(part: &[u8], n: usize, i: usize) -> Option<Write>
     requires { 4 * n ≤ length part.now }
-    ensures { hold_write result ≡ get_or (entries part.now n) i no_write }
+    ensures { result ≡ entry_in (entries part.now n) i }
 {
     if i < n {
-        return run_lists::entry_at(part, i);
+        return Some(run_lists::entry_at(part, i));
     }
-    Write {
-        node: 0,
-        term: Term(0),
-    }
-}
-
-fn same(a: Write, b: Write) -> bool
-    ensures { result ≡ same_write (hold_write a) (hold_write b) }
-{
-    (a.node == b.node) & (a.term.0 == b.term.0)
+    None
 }
 
 // How many entries the two have in common at their front.
@@ -42,41 +31,27 @@ fn common(one: &[u8], n: usize, other: &[u8], m: usize) -> usize
     requires { (4 * n ≤ length one.now) × (4 * m ≤ length other.now) }
     ensures { result ≡ common (entries one.now n) (entries other.now m) }
 {
-    let mut i: usize = 0;
-    while i < n {
-        if m <= i {
+    let both = n.min(m);
+    for i in 0..both {
+        if run_lists::entry_at(one, i) != run_lists::entry_at(other, i) {
             return i;
         }
-        if !same(run_lists::entry_at(one, i), run_lists::entry_at(other, i)) {
-            return i;
-        }
-        i += 1;
     }
-    i
+    both
 }
 
-// Compares n entries of the one part with m of the other.
-pub fn difference(one: &[u8], n: usize, other: &[u8], m: usize) -> Parting
+// Compares n entries of the one part with m of the other. None where they agree.
+pub fn difference(one: &[u8], n: usize, other: &[u8], m: usize) -> Option<Parting>
     requires { (n ≤ history_length) × (4 * n ≤ length one.now) × (4 * m ≤ length other.now) }
     ensures { result ≡ difference (entries one.now n) (entries other.now m) }
 {
     let i = common(one, n, other, m);
-    if (i == n) & (i == m) {
-        let none = Write {
-            node: 0,
-            term: Term(0),
-        };
-        return Parting {
-            at: 0,
-            one: none,
-            other: none,
-        };
+    if i == n && i == m {
+        return None;
     }
-    let a = entry_of(one, n, i);
-    let b = entry_of(other, m, i);
-    Parting {
+    Some(Parting {
         at: i as u32 + 1,
-        one: a,
-        other: b,
-    }
+        one: entry_of(one, n, i),
+        other: entry_of(other, m, i),
+    })
 }

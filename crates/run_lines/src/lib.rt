@@ -3,25 +3,23 @@
 
 ghost use Rattle.std.specs.Prelude.{◌+◌, ◌*◌, ◌≤◌, length};
 ghost use Rattle.rules.specs.Limits.{history_length};
-ghost use Rattle.run_lists.specs.Trails.{Trails};
 ghost use Rattle.any_text.specs.Put.{Put};
 ghost use Rattle.run_lines.specs.RunText.{record_line_at};
 ghost use Rattle.run_lines.specs.Bytes.{entry_line_at, bytes_text, longest_text};
 ghost use Rattle.any_text.specs.Lined.{Lined};
 
-use run_lists::Trailer;
+use run_lists::EventList;
 
 // A line for each record. It has at most 18 bytes: a place of five digits, and three bytes of three digits.
-fn put_records(buf: &mut [u8], list: &[u8], trailer: Trailer, answers: &[u8]) -> usize
-    requires { Trails list.now trailer × (trailer.records ≤ length answers.now) × (18 * trailer.records ≤ length buf.old) }
-    ensures { Lined (record_line_at list.now answers.now) 18 buf.old 0 trailer.records buf.new result }
+fn put_records(buf: &mut [u8], list: EventList, answers: &[u8]) -> usize
+    requires { (list.trailer.records ≤ length answers.now) × (18 * list.trailer.records ≤ length buf.old) }
+    ensures { Lined (record_line_at list.entry.bytes.now answers.now) 18 buf.old 0 list.entry.trailer.records buf.new result }
 {
     let mut at: usize = 0;
-    let mut i: usize = 0;
-    while i < trailer.records {
-        let event = run_lists::read_record(list, trailer.first, i);
-        at = any_text::put_record_line(buf, at, (i + 1) as u32, event.kind, event.node, answers[i]);
-        i += 1;
+    for i in 0..list.trailer.records {
+        let event = list.record(i);
+        let others = [event.kind as u64, event.node as u64, answers[i] as u64];
+        at = any_text::put_row(buf, at, (i + 1) as u64, &others);
     }
     at
 }
@@ -32,22 +30,20 @@ fn put_writes(buf: &mut [u8], at: usize, part: &[u8], writes: usize) -> usize
     ensures { Lined (entry_line_at part.now) 10 buf.old at writes buf.new result }
 {
     let mut next = at;
-    let mut i: usize = 0;
-    while i < writes {
+    for i in 0..writes {
         let entry = run_lists::entry_at(part, i);
-        next = any_text::put_write_line(buf, next, entry.node, entry.term.0);
-        i += 1;
+        next = any_text::put_row(buf, next, entry.node as u64, &[entry.term.0 as u64]);
     }
     next
 }
 
 // The whole text of a list that is not refused, from the buffer that its run has filled.
-pub fn put_run(buf: &mut [u8], list: &[u8], trailer: Trailer, out: &[u8], writes: u32) -> usize
-    requires { Trails list.now trailer × (writes ≤ history_length) × (trailer.records + 4 * writes ≤ length out.now) × (longest_text ≤ length buf.old) }
-    ensures { Put buf.old 0 (bytes_text list.now out.now writes) buf.new result × (result ≤ longest_text) }
+pub fn put_run(buf: &mut [u8], list: EventList, out: &[u8], writes: u32) -> usize
+    requires { (writes ≤ history_length) × (list.trailer.records + 4 * writes ≤ length out.now) × (longest_text ≤ length buf.old) }
+    ensures { Put buf.old 0 (bytes_text list.entry.bytes.now out.now writes) buf.new result × (result ≤ longest_text) }
 {
-    let records = trailer.records;
-    let writes_at = put_records(buf, list, trailer, out);
-    let next = any_text::put_writes_line(buf, writes_at, writes);
+    let records = list.trailer.records;
+    let writes_at = put_records(buf, list, out);
+    let next = any_text::put_fitting_line(buf, writes_at, b"writes", &[writes as u64]);
     put_writes(buf, next, &out[records..], writes as usize)
 }

@@ -1,6 +1,6 @@
 -- What is known of a list that is not refused, what the code answers of it, and its records one by one. Assumes nothing.
-use Rattle.std.specs.Prelude.{◌≡◌, refl, Bool, true, false, List, ℕ, zero, suc, ◌+◌, ◌*◌, ◌<◌, T, length, take}
-use Rattle.std.proofs.Common.{ap, add-one, arith, take-suc, take_all}
+use Rattle.std.specs.Prelude.{◌≡◌, Bool, true, false, List, ℕ, ◌+◌, ◌*◌, ◌<◌, T, length, take}
+use Rattle.std.proofs.Common.{add-one, arith, take-suc, take_all}
 use Rattle.rules.specs.Limits.{most_nodes}
 use Rattle.rules.specs.Codes.{bad_length, bad_mark, bad_node_count, bad_extent}
 use Rattle.rules.specs.Queues.{push}
@@ -9,7 +9,6 @@ use Rattle.rules_laws.specs.InRange.{Within}
 use Rattle.rules_laws.specs.Tests.{is_within, is_eq}
 use Rattle.any_list.specs.Tables.{table-length, table-get}
 use Rattle.run_lists.specs.EventList.{trailer_length, longest, first_record, record_count, node_count, need, length_fits, trailer_fits, nodes_fit, sum_fits, refusal, record_at, records}
-use Rattle.run_lists.specs.Reads.{answered, trailer_of}
 
 pub record Good (l : List ℕ) : Type 0 where
   pub size : Within trailer_length longest (length l)
@@ -33,20 +32,6 @@ good l e =
 pub good-ends : (l : List ℕ) → refusal l ≡ 0 → T (trailer_fits l)
 unfolding refusal
 good-ends l e = (all_hold (length_fits l) (trailer_fits l) (nodes_fit l) (sum_fits l) e).1
-
--- ---- what the code answers
-
-code_of : (code : ℕ) (l : List ℕ) → (answered code l).code ≡ code
-code_of zero l = refl
-code_of (suc code) l = refl
-
-pub trailer-code : (l : List ℕ) → (trailer_of l).code ≡ refusal l
-unfolding trailer_of
-trailer-code l = code_of (refusal l) l
-
-pub trailer-good : (l : List ℕ) → refusal l ≡ 0 → trailer_of l ≡ answered 0 l
-unfolding trailer_of
-trailer-good l e = ap (λ (code : ℕ). answered code l) e
 
 -- ---- the records that a loop has passed
 

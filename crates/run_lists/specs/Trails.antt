@@ -1,9 +1,8 @@
 -- A trailer that was read from a list that is not refused. Assumes nothing.
-use Rattle.std.specs.Prelude.{◌≡◌, List, ℕ}
-use Rattle.std.proofs.Common.{sym, ap, ◌∙◌}
+use Rattle.std.specs.Prelude.{◌≡◌, refl, List, ℕ}
+use Rattle.std.proofs.Math.Path.{subst}
 use Rattle.run_lists.specs.EventList.{node_count, first_record, record_count, refusal}
-use Rattle.run_lists.specs.Reads.{trailer_of}
-use Rattle.run_lists.specs.Good.{Good, good, trailer-code, trailer-good}
+use Rattle.run_lists.specs.Good.{Good, good}
 use Rattle.run_lists.specs.declared.Trailer.{Trailer}
 
 -- The list is not refused, and the trailer is the list's.
@@ -14,14 +13,9 @@ pub record Trails (list : List ℕ) (t : Trailer) : Type 0 where
   pub records : t.records ≡ record_count list
   pub nodes : t.nodes ≡ node_count list
 
-pub trails : (list : List ℕ) (t : Trailer) → t ≡ trailer_of list → t.code ≡ 0 → Trails list t
-trails list t e z =
-    let none : refusal list ≡ 0 = sym (trailer-code list) ∙ ap (λ (x : Trailer). x.code) (sym e) ∙ z in
-    let is = e ∙ trailer-good list none in
-    record {
-      none = none;
-      good = good list none;
-      first = ap (λ (x : Trailer). x.first) is;
-      records = ap (λ (x : Trailer). x.records) is;
-      nodes = ap (λ (x : Trailer). x.nodes) is;
-    }
+pub trails : (list : List ℕ) → refusal list ≡ 0 → Trails list (record { first = first_record list; records = record_count list; nodes = node_count list })
+trails list none = record { none = none; good = good list none; first = refl; records = refl; nodes = refl }
+
+-- The same bytes, said otherwise.
+pub trails-same : {list same : List ℕ} {t : Trailer} → list ≡ same → Trails list t → Trails same t
+trails-same {t = t} e is = subst (λ (l : List ℕ). Trails l t) e is

@@ -1,15 +1,17 @@
 // Reading an event list, and writing and reading the entries of the history behind the answers.
 #![tactic(auto)]
 
-ghost use Rattle.std.specs.Prelude.{◌≡◌, ◌+◌, ◌*◌, ◌≤◌, ◌<◌, length};
+ghost use Rattle.std.specs.Prelude.{◌≡◌, ◌+◌, ◌*◌, ◌≤◌, ◌<◌, length, MatchResult};
 ghost use Rattle.std.proofs.lemmas.List.Edits.{sets};
-ghost use Rattle.run_lists.specs.EventList.{byte_at, number_at, refusal, event_at, record_at, first_record, entry_bytes};
+ghost use Rattle.run_lists.specs.EventList.{number_at, refusal, event_at, record_at, first_record, entry_bytes};
 ghost use Rattle.run_lists.specs.Listed.{trailer_bytes};
-ghost use Rattle.run_lists.specs.Reads.{event_of, trailer_of};
+ghost use Rattle.run_lists.specs.Reads.{event_of};
+ghost use Rattle.run_lists.specs.Trails.{Trails};
+ghost use Rattle.step_parts.specs.Answers.{refusal_code};
 ghost use Rattle.run_lists.specs.Entries.{entry_at};
 ghost use Rattle.step_parts.specs.Hold.{hold_write};
 
-use step_parts::{Term, Write};
+use step_parts::{Refusal, Term, Write};
 
 pub const TRAILER_LENGTH: usize = 12;
 
@@ -21,89 +23,48 @@ pub const MOST_RECORDS: usize = 32762;
 
 // ---- the trailer
 
-fn byte_at(list: &[u8], at: usize) -> usize
-    requires { at < length list.now }
-    ensures { (result ≡ byte_at list.now at) × (result < 256) }
-{
-    list[at] as usize
-}
-
 // Four bytes, the least first. The sum that is held against the length cannot wrap, since each number is below 2^32.
 fn number_at(list: &[u8], at: usize) -> usize
     requires { at + 4 ≤ length list.now }
     ensures { (result ≡ number_at list.now at) × (result < 4294967296) }
 {
-    let high = byte_at(list, at + 2) + 256 * byte_at(list, at + 3);
-    byte_at(list, at) + 256 * (byte_at(list, at + 1) + 256 * high)
+    u32::from_le_bytes([list[at], list[at + 1], list[at + 2], list[at + 3]]) as usize
 }
 
-// Why the list is refused; 0 for a good one.
-fn refusal(list: &[u8]) -> u8
-    ensures { result ≡ refusal list.now }
-{
-    let length = list.len();
-    if length < TRAILER_LENGTH {
-        return step_parts::BAD_LENGTH;
-    }
-    if LONGEST < length {
-        return step_parts::BAD_LENGTH;
-    }
-    let at = length - TRAILER_LENGTH;
-    if list[at + 10] != 0x4D {
-        return step_parts::BAD_MARK;
-    }
-    if list[at + 11] != 0x41 {
-        return step_parts::BAD_MARK;
-    }
-    if list[at + 9] != 0 {
-        return step_parts::BAD_MARK;
-    }
-    let nodes = list[at + 8];
-    if nodes < 1 {
-        return step_parts::BAD_NODE_COUNT;
-    }
-    if step_parts::MOST_NODES < nodes {
-        return step_parts::BAD_NODE_COUNT;
-    }
-    let first = number_at(list, at);
-    let records = number_at(list, at + 4);
-    if first + 2 * records + TRAILER_LENGTH == length {
-        return step_parts::DONE;
-    }
-    step_parts::BAD_EXTENT
-}
-
-// What the trailer says; all 0 beside a refusal.
+// What the trailer says.
 #[derive(Clone, Copy)]
 pub struct Trailer {
-    pub code: u8,
     pub first: usize,
     pub records: usize,
     pub nodes: u8,
 }
 
-pub fn read_trailer(list: &[u8]) -> Trailer
-    ensures { result ≡ trailer_of list.now }
+// The trailer of a good list, or why the list is refused.
+pub fn read_trailer(list: &[u8]) -> Result<Trailer, Refusal>
+    ensures { MatchResult result (Trails list.now) (λ r. refusal_code r ≡ refusal list.now) }
 {
-    let code = refusal(list);
-    if code == step_parts::DONE {
-        let at = list.len() - TRAILER_LENGTH;
-        let first = number_at(list, at);
-        let records = number_at(list, at + 4);
-        let nodes = list[at + 8];
-        return Trailer {
-            code: code,
-            first: first,
-            records: records,
-            nodes: nodes,
-        };
+    let length = list.len();
+    if length < TRAILER_LENGTH || LONGEST < length {
+        return Err(Refusal::BadLength);
     }
-    Trailer {
-        code: code,
-        first: 0,
-        records: 0,
-        nodes: 0,
+    let at = length - TRAILER_LENGTH;
+    if list[at + 10] != 0x4D || list[at + 11] != 0x41 || list[at + 9] != 0 {
+        return Err(Refusal::BadMark);
     }
+    let nodes = list[at + 8];
+    if nodes < 1 || step_parts::MOST_NODES < nodes {
+        return Err(Refusal::BadNodeCount);
+    }
+    let first = number_at(list, at);
+    let records = number_at(list, at + 4);
+    if first + 2 * records + TRAILER_LENGTH != length {
+        return Err(Refusal::BadExtent);
+    }
+    Ok(Trailer {
+        first,
+        records,
+        nodes,
+    })
 }
 
 // The trailer of a list whose first record stands at its start.
@@ -111,31 +72,19 @@ pub fn trailer_bytes(records: usize, nodes: u8) -> [u8; TRAILER_LENGTH]
     requires { records ≤ 32762 }
     ensures { result ≡ trailer_bytes records nodes }
 {
-    [
-        0u8,
-        0,
-        0,
-        0,
-        (records % 256) as u8,
-        (records / 256) as u8,
-        0,
-        0,
-        nodes,
-        0,
-        0x4D,
-        0x41,
-    ]
+    let [low, high] = (records as u16).to_le_bytes();
+    [0u8, 0, 0, 0, low, high, 0, 0, nodes, 0, 0x4D, 0x41]
 }
 
 // ---- the records
 
-#[derive(Clone, Copy)]
+#[derive(Clone, Copy, PartialEq, Eq)]
 pub struct Record {
     pub kind: u8,
     pub node: u8,
 }
 
-// The reader: the lent bytes and its place.
+// The reader: the lent bytes and its place. A form that the project keeps: a thin struct over a covered function on slice and number.
 #[derive(Clone, Copy)]
 pub struct Reader<'a> {
     pub src: &'a [u8],
@@ -183,6 +132,34 @@ pub fn read_record(list: &[u8], first: usize, i: usize) -> Record
     read_at(list, first + 2 * i)
 }
 
+// ---- a list that is not refused
+
+// Its bytes, with what its trailer says.
+#[derive(Clone, Copy)]
+pub struct EventList<'a> {
+    pub bytes: &'a [u8],
+    pub trailer: Trailer,
+    pub ghost good: { Trails bytes.now trailer },
+}
+
+impl<'a> EventList<'a> {
+    // The list that bytes are, or why they are refused.
+    pub fn read(bytes: &'a [u8]) -> Result<EventList<'a>, Refusal>
+        ensures { MatchResult result (λ l. l.bytes.now ≡ bytes.now) (λ r. refusal_code r ≡ refusal bytes.now) }
+    {
+        let trailer = read_trailer(bytes)?;
+        Ok(EventList { bytes, trailer })
+    }
+
+    // The i-th record.
+    pub fn record(self, i: usize) -> Record
+        requires { i < self.trailer.records }
+        ensures { event_of result ≡ record_at self.entry.bytes.now i }
+    {
+        read_record(self.bytes, self.trailer.first, i)
+    }
+}
+
 // ---- the history
 
 // Entry number `at`, into the part of the buffer behind the answers.
@@ -191,13 +168,14 @@ pub fn put_entry(part: &mut [u8], at: usize, node: u8, term: Term)
     ensures { part.new ≡ sets part.old (4 * at) (entry_bytes (record { node = node; term = term.0 })) }
 {
     let from = 4 * at;
+    let [low, high] = term.0.to_le_bytes();
     part[from] = node;
     part[from + 1] = 0;
-    part[from + 2] = (term.0 % 256) as u8;
-    part[from + 3] = (term.0 / 256) as u8;
+    part[from + 2] = low;
+    part[from + 3] = high;
 }
 
-// The same into the whole buffer, whose first `answers` bytes are the answers.
+// The same into the whole buffer, whose first `answers` bytes are the answers: the part behind them is lent on, a form that the project keeps.
 pub fn write_entry(out: &mut [u8], answers: usize, at: usize, node: u8, term: Term)
     requires { answers + 4 * at + 4 ≤ length out.old }
     ensures { out.new ≡ sets out.old (answers + 4 * at) (entry_bytes (record { node = node; term = term.0 })) }
@@ -210,11 +188,8 @@ pub fn entry_at(part: &[u8], at: usize) -> Write
     requires { 4 * at + 4 ≤ length part.now }
     ensures { hold_write result ≡ entry_at part.now at }
 {
-    let node = part[4 * at];
-    let low = part[4 * at + 2] as u16;
-    let high = part[4 * at + 3] as u16;
     Write {
-        node: node,
-        term: Term(low + 256 * high),
+        node: part[4 * at],
+        term: Term(u16::from_le_bytes([part[4 * at + 2], part[4 * at + 3]])),
     }
 }

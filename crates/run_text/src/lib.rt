@@ -6,6 +6,8 @@ ghost use Rattle.std.specs.Prelude.{◌≤◌, length};
 ghost use Rattle.any_text.specs.Put.{Put};
 ghost use Rattle.run_text.specs.Transcript.{transcript};
 
+use run_lists::EventList;
+
 // Room for the longest text: 32,762 lines of 18 bytes, one of 12 and 1,024 of 10.
 pub const LONGEST_TEXT: usize = 600000;
 
@@ -13,11 +15,12 @@ pub const LONGEST_TEXT: usize = 600000;
 pub fn transcript(list: &[u8], buf: &mut [u8; LONGEST_TEXT]) -> usize
     ensures { Put buf.old 0 (transcript list.now) buf.new result × (result ≤ length buf.new) }
 {
-    let trailer = run_lists::read_trailer(list);
-    if trailer.code == step_parts::DONE {
-        let mut out = [0u8; run::LONGEST_OUT];
-        let returned = run::run(list, &mut out);
-        return run_lines::put_run(buf, list, trailer, &out, returned - run::NO_WRITES);
+    match EventList::read(list) {
+        Ok(events) => {
+            let mut out = [0u8; run::LONGEST_OUT];
+            let returned = run::run(list, &mut out);
+            run_lines::put_run(buf, events, &out, returned - run::NO_WRITES)
+        }
+        Err(refusal) => any_text::put_refused_line(buf, 0, refusal as u32),
     }
-    any_text::put_refused_line(buf, 0, trailer.code as u32)
 }

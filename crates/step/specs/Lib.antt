@@ -1,5 +1,6 @@
 -- Believed: Public.
--- Laws: Settling, Stepping.
+-- Laws: Numbers, Settling, Stepping.
 pub mod Public
+pub mod Numbers
 pub mod Settling
 pub mod Stepping

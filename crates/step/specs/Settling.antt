@@ -1,5 +1,5 @@
 -- A history with one write more, a step put together with its history, and blank states. Assumes nothing.
-use Rattle.std.specs.Prelude.{◌≡◌, Bool, cond, List, [], ◌∷◌, ◌++◌, ℕ, ◌+◌, ◌<◌, length, set, replicate}
+use Rattle.std.specs.Prelude.{◌≡◌, Bool, List, [], ◌∷◌, ◌++◌, ℕ, Option, Some, None, ◌+◌, ◌<◌, length, set, replicate}
 use Rattle.std.proofs.Common.{sym, length-append}
 use Rattle.rules.specs.Limits.{history_length}
 use Rattle.rules.specs.State as S
@@ -11,22 +11,18 @@ use Rattle.step_parts.specs.declared.Write.{Write}
 use Rattle.step_state.specs.Hold.{no_write, pack_history, represent}
 use Rattle.step_state.specs.declared.History.{History}
 use Rattle.step_state.specs.declared.State.{State}
-use Rattle.step_state.specs.declared.Moved.{Moved}
-use Rattle.step.specs.declared.Stepped.{Stepped}
+use Rattle.step_state.specs.declared.Body.{Body}
 
 abbrev pub appended : Write → History → History
 appended e h = record { items = set h.items h.len e; len = h.len + 1 }
 
-abbrev pub settled_as : History → Moved → ℕ → Stepped
-settled_as h m node = record {
-  code = m.code;
-  state = record {
-    count = m.body.count;
-    running = m.body.running;
-    core = m.body.core;
-    history = cond m.accepted (appended (record { node = node; term = m.term }) h) h;
-  };
-}
+-- With the write of a step, if it accepted one.
+abbrev pub grown : Option Write → History → History
+grown None h = h
+grown (Some e) h = appended e h
+
+abbrev pub settled_as : Body → History → Option Write → State
+settled_as b h o = record { count = b.count; running = b.running; core = b.core; history = grown o h }
 
 pub appended-held : (l : List S.Write) (e : S.Write) → length l < history_length → appended (pack_write e) (pack_history l) ≡ pack_history (l ++ (e ∷ []))
 unfolding pack_history push

@@ -1,8 +1,8 @@
 -- A step of a state in range, from the step of its body and its history. Assumes nothing.
-use Rattle.std.specs.Prelude.{◌≡◌, Bool, ◌&&◌, List, [], ◌∷◌, ◌++◌, T, length}
+use Rattle.std.specs.Prelude.{◌≡◌, Bool, ◌&&◌, List, [], ◌++◌, Option, Some, None, OnSome, T, length}
 use Rattle.std.proofs.Math.Path.{refl, sym, ap}
 use Rattle.std.proofs.Common.{◌∙◌, append-nil, length-append}
-use Rattle.std.proofs.Math.Bool.{true, false, cond}
+use Rattle.std.proofs.Math.Bool.{true, false}
 use Prim.Native.Nat.{ℕ, ◌≤◌, ◌<◌}
 use native.Mathlib.Omega.{arith}
 use Rattle.rules.specs.Limits.{most_nodes, history_length}
@@ -10,20 +10,21 @@ use Rattle.rules.specs.State as S
 use Rattle.rules.specs.Range.{in_range}
 use Rattle.rules.specs.Part.{Result}
 use Rattle.rules.specs.Step.{Event, kind_of, of_kind, of_state, step}
-use Rattle.rules.specs.Open.{open_report, word_of, open_number}
+use Rattle.rules.specs.Open.{Report, open_report, word_of, open_number}
 use Rattle.rules_laws.specs.RangeTest.{range-sound, range-complete}
 use Rattle.rules_laws.specs.Steps.{step_keeps}
 use Rattle.any_list.specs.Arrays.{column}
 use Rattle.step_state.specs.Hold.{open_at, pack_history, pack_core, hold_history, hold_core, hold_board, hold, represent}
+use Rattle.step_parts.specs.Hold.{hold_write}
+use Rattle.step_state.specs.Stores.{hold_accepted}
 use Rattle.step_state.specs.Tidy.{tidy_core, tidy_history, state_fits}
 use Rattle.step_state.specs.declared.State.{State}
 use Rattle.step_state.specs.declared.History.{History}
 use Rattle.step_state.specs.declared.Body.{Body}
-use Rattle.step_state.specs.declared.Moved.{Moved}
-use Rattle.step_moves.specs.Bodies.{state_of, Ready, accepted_in, Leaves}
+use Rattle.step_parts.specs.declared.Write.{Write}
+use Rattle.step_moves.specs.Bodies.{state_of, Ready, Leaves, Left}
 use Rattle.step.specs.Public.{stepped, reported}
-use Rattle.step.specs.Settling.{appended, appended-held, settled_as}
-use Rattle.step.specs.declared.Report.{Report}
+use Rattle.step.specs.Settling.{appended, appended-held, grown, settled_as}
 
 abbrev pub body_in : State → Body
 body_in s = record { count = s.count; running = s.running; core = s.core }
@@ -68,7 +69,7 @@ module _ (s : State) (fits : state_fits s ≡ true) where
       same = λ i. record { count = s.count; running = s.running; core = (same i).core };
     }
 
-    module _ (kind node : ℕ) (m : Moved) (leaves : Leaves node (hold_history s.history) (of_kind (kind_of kind) node (state_of (body_in s) (hold_history s.history))) m) where
+    module _ (kind node : ℕ) (m : Left) (leaves : Leaves (hold_history s.history) (of_kind (kind_of kind) node (state_of (body_in s) (hold_history s.history))) m) where
       abbrev event : Event
       event = record { kind = kind; node = node }
 
@@ -79,37 +80,40 @@ module _ (s : State) (fits : state_fits s ≡ true) where
       unfolding step hold t
       is-step = ap (λ (b : Bool). of_state b event (hold s)) held-range
 
-      grown : t.state.history ≡ held ++ accepted_in node m
+      grown-by : t.state.history ≡ held ++ hold_accepted m.accepted
       unfolding t held
-      grown = leaves.history-grows
+      grown-by = leaves.history-grows
 
       short : length t.state.history ≤ history_length
       short = (range-sound t.state (rw is-step at (step_keeps event (hold s) held_fits))).history-size
 
-      fits_in : m.accepted ≡ true → length held < history_length
-      fits_in e =
-          let n = ap length grown ∙ length-append held (accepted_in node m) in
-          let k : length (accepted_in node m) ≡ 1 = ap (λ (b : Bool). length {A = S.Write} (cond b (record { node = node; term = m.term.0 } ∷ []) [])) e in
+      fits_in : (w : Write) → m.accepted ≡ Some w → length held < history_length
+      fits_in w e =
+          let n = ap length grown-by ∙ length-append held (hold_accepted m.accepted) in
+          let k : length (hold_accepted m.accepted) ≡ 1 = ap (λ (o : Option Write). length (hold_accepted o)) e in
           let z = short in
           omega arith
 
-      pub room-left : m.accepted ≡ true → s.history.len < history_length
+      pub room-left : OnSome m.accepted (s.history.len < history_length)
       unfolding held
-      room-left e = let f = fits_in e in let l = long in omega arith
+      room-left = go m.accepted refl
+        where
+          go : (o : Option Write) → m.accepted ≡ o → OnSome o (s.history.len < history_length)
+          go None e = tt
+          go (Some w) e = let f = fits_in w e in let l = long in omega arith
 
-      pub settles : settled_as s.history m node ≡ stepped s kind node
+      pub settles : record { answer = m.code; state = settled_as m.body s.history m.accepted } ≡ stepped s kind node
       unfolding stepped represent t held
       settles = simp fits (λ i. record {
-        code = (leaves.code ∙ ap (λ (x : Result ℕ S.State). x.answer) (sym is-step)) i;
+        answer = (leaves.code ∙ ap (λ (x : Result ℕ S.State). x.answer) (sym is-step)) i;
         state = record {
           count = (ap (λ (b : Body). b.count) leaves.body ∙ ap (λ (x : Result ℕ S.State). x.state.count) (sym is-step)) i;
           running = (ap (λ (b : Body). b.running) leaves.body ∙ ap (λ (x : Result ℕ S.State). x.state.running) (sym is-step)) i;
           core = (ap (λ (b : Body). b.core) leaves.body ∙ ap (λ (x : Result ℕ S.State). pack_core x.state.core) (sym is-step)) i;
-          history = (go m.accepted refl ∙ ap pack_history (sym grown) ∙ ap (λ (x : Result ℕ S.State). pack_history x.state.history) (sym is-step)) i;
+          history = (go m.accepted refl ∙ ap pack_history (sym grown-by) ∙ ap (λ (x : Result ℕ S.State). pack_history x.state.history) (sym is-step)) i;
         };
       })
         where
-          go : (b : Bool) → m.accepted ≡ b
-              → cond b (appended (record { node = node; term = m.term }) s.history) s.history ≡ pack_history (held ++ cond b (record { node = node; term = m.term.0 } ∷ []) [])
-          go true e = ap (appended (record { node = node; term = m.term })) (sym history-same) ∙ appended-held held (record { node = node; term = m.term.0 }) (fits_in e)
-          go false e = sym history-same ∙ ap pack_history (sym (append-nil held))
+          go : (o : Option Write) → m.accepted ≡ o → grown o s.history ≡ pack_history (held ++ hold_accepted o)
+          go (Some w) e = ap (appended w) (sym history-same) ∙ appended-held held (hold_write w) (fits_in w e)
+          go None e = sym history-same ∙ ap pack_history (sym (append-nil held))

@@ -1,15 +1,19 @@
 -- The kinds by their numbers, as the code tells them apart. Assumes nothing.
-use Rattle.std.specs.Prelude.{◌≡◌, refl, ◌≢◌, Bool, true, false, cond, ◌&&◌, ◌||◌, eqb, leb}
-use Rattle.std.proofs.Common.{sym, subst, arith, le-leb}
+use Rattle.std.specs.Prelude.{◌≡◌, refl, ◌≢◌, ◌⊎◌, Bool, true, false, cond, ◌&&◌, ◌||◌, eqb, leb}
+use Rattle.std.proofs.Common.{sym, subst, arith, le-leb, inl, inr}
 use Prim.Native.Nat.{ℕ, zero, suc, ◌≤◌, ◌<◌}
 use Rattle.std.proofs.Math.Decide.{ℕ_discrete}
-use Rattle.std.proofs.lemmas.Bool.{lt-leb}
+use Rattle.std.proofs.lemmas.Bool.{lt-leb, false_from_ne_true}
+use Rattle.std.proofs.Math.Option.{none}
 use Rattle.rules.specs.Codes.{step_done, unknown_kind, wrong_node}
 use Rattle.rules.specs.Range.{within}
-use Rattle.rules.specs.Step.{kind_of}
+use Rattle.rules.specs.Step.{kind_of, number_of}
 use Rattle.rules_laws.specs.InRange.{Within}
 use Rattle.rules_laws.specs.Kinds.{of_none, of_node, of-power}
 use Rattle.rules_laws.specs.Tests.{is_eq, is_within, is-yes}
+use Rattle.step_parts.specs.Kinds.{hold_kind}
+use Rattle.step_parts.specs.declared.Kind.{Kind}
+use Rattle.step_parts.specs.declared.Kind.TheVariants as K
 use Rattle.step_asks.specs.declared.Ask.{Ask}
 use Rattle.step_asks.specs.Groups.{has_node, row_kind, desk_kind, at_row, at_desk, existence_of}
 
@@ -164,3 +168,71 @@ module _ (count n : ℕ) where
   board-none _ handle_update h z = absurd (omega arith)
   board-none _ shutdown h z = (is_eq n 0).to ((is-yes (eqb n 0)).from (yes_of (eqb n 0) z))
   board-none _ startup h z = (is_eq n 0).to ((is-yes (eqb n 0)).from (yes_of (eqb n 0) z))
+
+-- ---- the kinds of the code, by group
+
+pub row-yes : (k : Kind) → (k ≡ K.Learn) ⊎ (k ≡ K.SendUpdate) ⊎ (k ≡ K.ReceiveUpdate) ⊎ (k ≡ K.SendWrite) ⊎ (k ≡ K.ReceiveWrite) ⊎ (k ≡ K.Connect) ⊎ (k ≡ K.HandleWrite) → true ≡ row_kind (number_of (hold_kind k))
+unfolding within
+row-yes k (inl e) = rw e refl
+row-yes k (inr (inl e)) = rw e refl
+row-yes k (inr (inr (inl e))) = rw e refl
+row-yes k (inr (inr (inr (inl e)))) = rw e refl
+row-yes k (inr (inr (inr (inr (inl e))))) = rw e refl
+row-yes k (inr (inr (inr (inr (inr (inl e)))))) = rw e refl
+row-yes k (inr (inr (inr (inr (inr (inr e)))))) = rw e refl
+
+pub row-no : (k : Kind) → k ≢ K.Learn → k ≢ K.SendUpdate → k ≢ K.ReceiveUpdate → k ≢ K.SendWrite → k ≢ K.ReceiveWrite → k ≢ K.Connect → k ≢ K.HandleWrite → false ≡ row_kind (number_of (hold_kind k))
+unfolding within
+row-no K.Join a b c d e f g = refl
+row-no K.Leave a b c d e f g = refl
+row-no K.Learn a b c d e f g = absurd (a refl)
+row-no K.SendUpdate a b c d e f g = absurd (b refl)
+row-no K.ReceiveUpdate a b c d e f g = absurd (c refl)
+row-no K.SendWrite a b c d e f g = absurd (d refl)
+row-no K.ReceiveWrite a b c d e f g = absurd (e refl)
+row-no K.Connect a b c d e f g = absurd (f refl)
+row-no K.Close a b c d e f g = refl
+row-no K.HandleUpdate a b c d e f g = refl
+row-no K.HandleWrite a b c d e f g = absurd (g refl)
+row-no K.Shutdown a b c d e f g = refl
+row-no K.Startup a b c d e f g = refl
+
+pub row-none : (n : ℕ) → kind_of n ≡ none → false ≡ row_kind n
+row-none n e = sym (false_from_ne_true (row_kind n) (λ t. go n (row-kind n t) e))
+  where
+    go : (n : ℕ) → RowKind n → kind_of n ≡ none → ⊥
+    go _ learns e = let w : ◌≡◌ {A = ℕ} 0 1 = cc in absurd (omega arith)
+    go _ send_update e = let w : ◌≡◌ {A = ℕ} 0 1 = cc in absurd (omega arith)
+    go _ receive_update e = let w : ◌≡◌ {A = ℕ} 0 1 = cc in absurd (omega arith)
+    go _ send_write e = let w : ◌≡◌ {A = ℕ} 0 1 = cc in absurd (omega arith)
+    go _ receive_write e = let w : ◌≡◌ {A = ℕ} 0 1 = cc in absurd (omega arith)
+    go _ connect e = let w : ◌≡◌ {A = ℕ} 0 1 = cc in absurd (omega arith)
+    go _ handle_write e = let w : ◌≡◌ {A = ℕ} 0 1 = cc in absurd (omega arith)
+
+pub desk-yes : (k : Kind) → (k ≡ K.Join) ⊎ (k ≡ K.Leave) → true ≡ desk_kind (number_of (hold_kind k))
+unfolding within
+desk-yes k (inl e) = rw e refl
+desk-yes k (inr e) = rw e refl
+
+pub desk-no : (k : Kind) → k ≢ K.Join → k ≢ K.Leave → false ≡ desk_kind (number_of (hold_kind k))
+unfolding within
+desk-no K.Join a b = absurd (a refl)
+desk-no K.Leave a b = absurd (b refl)
+desk-no K.Learn a b = refl
+desk-no K.SendUpdate a b = refl
+desk-no K.ReceiveUpdate a b = refl
+desk-no K.SendWrite a b = refl
+desk-no K.ReceiveWrite a b = refl
+desk-no K.Connect a b = refl
+desk-no K.Close a b = refl
+desk-no K.HandleUpdate a b = refl
+desk-no K.HandleWrite a b = refl
+desk-no K.Shutdown a b = refl
+desk-no K.Startup a b = refl
+
+pub desk-none : (n : ℕ) → kind_of n ≡ none → false ≡ desk_kind n
+desk-none n e = sym (false_from_ne_true (desk_kind n) (λ t. go n (desk-kind n t) e))
+  where
+    go : (n : ℕ) → DeskKind n → kind_of n ≡ none → ⊥
+    go _ join e = let w : ◌≡◌ {A = ℕ} 0 1 = cc in absurd (omega arith)
+    go _ leave e = let w : ◌≡◌ {A = ℕ} 0 1 = cc in absurd (omega arith)

@@ -2,9 +2,13 @@
 #![tactic(auto)]
 
 ghost use Rattle.std.specs.Prelude.{◌≡◌};
-ghost use Rattle.step_asks.specs.Groups.{row_kind, at_row, at_desk, existence, runs_after};
+ghost use Rattle.step_parts.specs.Answers.{code_of};
+ghost use Rattle.step_asks.specs.Groups.{row_kind, desk_kind, at_row, at_desk, existence, runs_after};
+
+use step_parts::{Kind, Refusal};
 
 // A step that is asked for, with the node count and whether the switch runs.
+// The kind is any byte: `existence` answers for those too that no kind has, and so does `step`.
 #[derive(Clone, Copy)]
 pub struct Ask {
     pub count: u8,
@@ -16,70 +20,65 @@ pub struct Ask {
 fn is_row_kind(kind: u8) -> bool
     ensures { result ≡ row_kind kind }
 {
-    if kind == step_parts::HANDLE_WRITE {
-        return true;
+    match Kind::try_from(kind) {
+        Ok(kind) => matches!(
+            kind,
+            Kind::Learn
+                | Kind::SendUpdate
+                | Kind::ReceiveUpdate
+                | Kind::SendWrite
+                | Kind::ReceiveWrite
+                | Kind::Connect
+                | Kind::HandleWrite
+        ),
+        Err(_) => false,
     }
-    if kind < step_parts::LEARN {
-        return false;
+}
+
+fn is_desk_kind(kind: u8) -> bool
+    ensures { result ≡ desk_kind kind }
+{
+    match Kind::try_from(kind) {
+        Ok(kind) => matches!(kind, Kind::Join | Kind::Leave),
+        Err(_) => false,
     }
-    kind <= step_parts::CONNECT
 }
 
 // A node and its stream.
 pub fn at_row(ask: Ask) -> bool
     ensures { result ≡ at_row ask }
 {
-    if is_row_kind(ask.kind) {
-        return step_parts::is_node(ask.count, ask.node);
-    }
-    false
+    is_row_kind(ask.kind) && step_parts::is_node(ask.count, ask.node)
 }
 
 // The service and all nodes.
 pub fn at_desk(ask: Ask) -> bool
     ensures { result ≡ at_desk ask }
 {
-    if ask.kind == 0 {
-        return false;
-    }
-    if step_parts::LEAVE < ask.kind {
-        return false;
-    }
-    step_parts::is_node(ask.count, ask.node)
+    is_desk_kind(ask.kind) && step_parts::is_node(ask.count, ask.node)
 }
 
-// Why there is no such step: the kind is unknown, or it does not call for the node. Done where there is.
-pub fn existence_code(ask: Ask) -> u8
-    ensures { result ≡ existence ask }
+// Whether there is such a step, or why not: the kind is unknown, or it does not call for the node.
+pub fn check_exists(ask: Ask) -> Result<(), Refusal>
+    ensures { code_of result ≡ existence ask }
 {
-    let kind = ask.kind;
-    if kind == 0 {
-        return step_parts::UNKNOWN_KIND;
+    let called = match Kind::try_from(ask.kind)? {
+        Kind::Shutdown | Kind::Startup => ask.node == 0,
+        _ => step_parts::is_node(ask.count, ask.node),
+    };
+    if !called {
+        return Err(Refusal::WrongNode);
     }
-    if step_parts::STARTUP < kind {
-        return step_parts::UNKNOWN_KIND;
-    }
-    if kind < step_parts::SHUTDOWN {
-        if step_parts::is_node(ask.count, ask.node) {
-            return step_parts::DONE;
-        }
-        return step_parts::WRONG_NODE;
-    }
-    if ask.node == 0 {
-        return step_parts::DONE;
-    }
-    step_parts::WRONG_NODE
+    Ok(())
 }
 
 // Whether the switch runs after the step.
 pub fn runs_after(ask: Ask) -> bool
     ensures { result ≡ runs_after ask }
 {
-    if ask.kind == step_parts::STARTUP {
-        return true;
+    match Kind::try_from(ask.kind) {
+        Ok(Kind::Startup) => true,
+        Ok(Kind::Shutdown) => false,
+        _ => ask.running,
     }
-    if ask.kind == step_parts::SHUTDOWN {
-        return false;
-    }
-    ask.running
 }

@@ -1,191 +1,112 @@
-// A step on a body, a state without its history: the answers in their order, and what is left.
+// A step on a body, a state without its history, done where it stands: whether it may be done, and what is left.
 #![tactic(auto)]
 
-ghost use Rattle.std.specs.Prelude.{◌≡◌, true, false, List, ◌≤◌, length};
-ghost use Rattle.rules.specs.Limits.{most_nodes};
+ghost use Rattle.std.specs.Prelude.{◌≡◌, true, false, List, length, OnErr};
 ghost use Rattle.rules.specs.State as S;
 ghost use Rattle.rules.specs.Step.{kind_of, of_kind};
-ghost use Rattle.step_moves.specs.Bodies.{state_of, Ready, Leaves};
-ghost use Rattle.step_moves.specs.Sets.{with_desk, with_controller, with_board};
-ghost use Rattle.step_moves.specs.Acts.{plain};
+ghost use Rattle.step_parts.specs.Answers.{code_of};
+ghost use Rattle.step_moves.specs.Bodies.{state_of, Ready, left_by, Leaves};
+ghost use Rattle.step_moves.specs.Gets.{controller_of, stream_of};
 ghost use Rattle.step_asks.specs.Groups.{at_row, at_desk};
 ghost use Rattle.step_groups.specs.Called.{ask_of};
-ghost use Rattle.step_groups.specs.RowTurns.{row_moved};
+ghost use Rattle.step_groups.specs.Turns.{row_answer};
 
 use step_asks::Ask;
-use step_groups::Row;
-use step_parts::{Mastership, Term};
-use step_state::{Board, Body, Controller, Moved};
+use step_parts::{Kind, Refusal, Write};
+use step_state::{Board, Body};
 
-// The body stays as it is, or was changed, and no write was accepted.
-fn plain(code: u8, body: Body) -> Moved
-    ensures { result ≡ plain code body }
+// Whether a step at a node and its stream may be done. The history holds `writes`.
+fn check_at_row(body: &Body, writes: u16, ask: Ask) -> Result<(), Refusal>
+    requires { Ready body.now × (ask ≡ ask_of body.now ask.kind ask.node) × (at_row ask ≡ true) }
+    ensures { code_of result ≡ row_answer ask writes (controller_of body.now ask.node) (stream_of body.now ask.node) body.now.core.claims }
 {
-    Moved {
-        code: code,
-        body: body,
-        accepted: false,
-        term: Term(0),
-    }
-}
-
-fn with_controller(body: Body, node: u8, controller: Controller) -> Body
-    requires { (1 ≤ node) × (node ≤ most_nodes) }
-    ensures { result ≡ with_controller node controller body }
-{
-    let at = (node - 1) as usize;
-    let mut core = body.core;
-    core.controllers[at] = controller;
-    let mut next = body;
-    next.core = core;
-    next
-}
-
-fn with_desk(body: Body, service: Mastership, controllers: [Controller; 8]) -> Body
-    ensures { result ≡ with_desk service controllers body }
-{
-    let mut core = body.core;
-    core.service = service;
-    core.controllers = controllers;
-    let mut next = body;
-    next.core = core;
-    next
-}
-
-fn with_board(body: Body, running: bool, board: Board) -> Body
-    ensures { result ≡ with_board running board.streams board.claims body }
-{
-    let streams = board.streams;
-    let claims = board.claims;
-    let mut core = body.core;
-    core.streams = streams;
-    core.claims = claims;
-    Body {
-        count: body.count,
-        running: running,
-        core: core,
-    }
-}
-
-// What a step at a row left, put into the body.
-fn with_row(body: Body, node: u8, row: Row) -> Moved
-    requires { (1 ≤ node) × (node ≤ most_nodes) }
-    ensures { result ≡ row_moved body node row }
-{
-    let at = (node - 1) as usize;
-    let stream = row.stream;
-    let claims = row.claims;
-    let entry = row.entry;
-    let term = entry.term;
-    let mut core = body.core;
-    core.controllers[at].says = row.says;
-    core.streams[at] = stream;
-    core.claims = claims;
-    let mut next = body;
-    next.core = core;
-    Moved {
-        code: step_parts::DONE,
-        body: next,
-        accepted: entry.accepted,
-        term: term,
-    }
+    let at = (ask.node - 1) as usize;
+    step_groups::check_row(
+        ask,
+        writes,
+        &body.core.controllers[at],
+        &body.core.streams[at],
+        &body.core.claims,
+    )
 }
 
 // A step at a node and its stream. The history holds `writes`.
-fn at_row(body: Body, writes: u16, kind: u8, node: u8) -> Moved
-    requires { Ready body × (at_row (ask_of body kind node) ≡ true) }
-    ensures { (history : List S.Write) → length history ≡ writes → Leaves node history (of_kind (kind_of kind) node (state_of body history)) result }
+fn at_row(body: &mut Body, writes: u16, ask: Ask) -> Result<Option<Write>, Refusal>
+    requires { Ready body.old × (ask ≡ ask_of body.old ask.kind ask.node) × (at_row ask ≡ true) }
+    ensures leaves { (history : List S.Write) → length history ≡ writes → Leaves history (of_kind (kind_of ask.kind) ask.node (state_of body.old history)) (left_by body.new result) }
+    ensures err { OnErr result (body.new ≡ body.old) }
 {
-    let ask = Ask {
-        count: body.count,
-        running: body.running,
-        kind: kind,
-        node: node,
-    };
-    let at = (node - 1) as usize;
-    let core = body.core;
-    let controller = core.controllers[at];
-    let stream = core.streams[at];
-    let claims = core.claims;
-    let code = step_groups::row_code(ask, writes, controller, stream, claims);
-    if code == step_parts::DONE {
-        if kind == step_parts::LEARN {
-            let next = step_nodes::learn(controller);
-            return plain(step_parts::DONE, with_controller(body, node, next));
-        }
-        let row = step_groups::row_after(ask, controller, stream, claims);
-        return with_row(body, node, row);
+    check_at_row(body, writes, ask)?;
+    let at = (ask.node - 1) as usize;
+    if ask.kind == Kind::Learn as u8 {
+        body.core.controllers[at] = step_nodes::learn(body.core.controllers[at]);
+        return Ok(None);
     }
-    plain(code, body)
+    let row = step_groups::row_after(
+        ask,
+        body.core.controllers[at],
+        body.core.streams[at],
+        body.core.claims,
+    );
+    body.core.controllers[at].says = row.says;
+    body.core.streams[at] = row.stream;
+    body.core.claims = row.claims;
+    Ok(row.accepted)
 }
 
 // A step of the service.
-fn at_desk(body: Body, kind: u8, node: u8) -> Moved
-    requires { Ready body × (at_desk (ask_of body kind node) ≡ true) }
-    ensures { (history : List S.Write) → Leaves node history (of_kind (kind_of kind) node (state_of body history)) result }
+fn at_desk(body: &mut Body, ask: Ask) -> Result<Option<Write>, Refusal>
+    requires { Ready body.old × (ask ≡ ask_of body.old ask.kind ask.node) × (at_desk ask ≡ true) }
+    ensures leaves { (history : List S.Write) → Leaves history (of_kind (kind_of ask.kind) ask.node (state_of body.old history)) (left_by body.new result) }
+    ensures err { OnErr result (body.new ≡ body.old) }
 {
-    let ask = Ask {
-        count: body.count,
-        running: body.running,
-        kind: kind,
-        node: node,
-    };
-    let core = body.core;
-    let service = core.service;
-    let controllers = core.controllers;
-    let code = step_groups::desk_code(ask, service, controllers);
-    if code == step_parts::DONE {
-        let next = step_groups::service_after(ask, service);
-        if step_groups::posts(ask, service) {
-            let heard = step_service::post(body.count, controllers, next);
-            return plain(step_parts::DONE, with_desk(body, next, heard));
-        }
-        return plain(step_parts::DONE, with_desk(body, next, controllers));
+    step_groups::check_desk(ask, body.core.service, &body.core.controllers)?;
+    let service = body.core.service;
+    let next = step_groups::service_after(ask, service);
+    body.core.service = next;
+    if step_groups::posts(ask, service) {
+        step_service::post(ask.count, &mut body.core.controllers, next);
     }
-    plain(code, body)
+    Ok(None)
 }
 
 // A step of the switch and all streams, or one that nothing calls for.
-fn at_board(body: Body, kind: u8, node: u8) -> Moved
-    requires { Ready body × (at_row (ask_of body kind node) ≡ false) × (at_desk (ask_of body kind node) ≡ false) }
-    ensures { (history : List S.Write) → Leaves node history (of_kind (kind_of kind) node (state_of body history)) result }
+fn at_board(body: &mut Body, ask: Ask) -> Result<Option<Write>, Refusal>
+    requires { Ready body.old × (ask ≡ ask_of body.old ask.kind ask.node) × (at_row ask ≡ false) × (at_desk ask ≡ false) }
+    ensures leaves { (history : List S.Write) → Leaves history (of_kind (kind_of ask.kind) ask.node (state_of body.old history)) (left_by body.new result) }
+    ensures err { OnErr result (body.new ≡ body.old) }
 {
-    let ask = Ask {
-        count: body.count,
-        running: body.running,
-        kind: kind,
-        node: node,
-    };
-    let core = body.core;
-    let streams = core.streams;
-    let claims = core.claims;
-    let code = step_groups::board_code(ask, streams, claims);
-    if code == step_parts::DONE {
-        let board = step_groups::board_after(ask, streams, claims);
-        return plain(
-            step_parts::DONE,
-            with_board(body, step_asks::runs_after(ask), board),
-        );
-    }
-    plain(code, body)
+    step_groups::check_board(ask, &body.core.streams, &body.core.claims)?;
+    // Out of the struct before they are stored: the check takes an array only from a variable.
+    let Board { streams, claims } = step_groups::board_after(
+        ask,
+        body.core.streams,
+        body.core.claims,
+    );
+    body.running = step_asks::runs_after(ask);
+    body.core.streams = streams;
+    body.core.claims = claims;
+    Ok(None)
 }
 
-// A step of a state in range, which it does not test: answers 0 and 2 to 7. The history holds `writes`.
-pub fn advance(body: Body, writes: u16, kind: u8, node: u8) -> Moved
-    requires { Ready body }
-    ensures { (history : List S.Write) → length history ≡ writes → Leaves node history (of_kind (kind_of kind) node (state_of body history)) result }
+// A step of a state in range, which it does not test: answers 0 and 2 to 7. The history holds `writes`. Gives the write that the step accepted, if it did;
+// a refusal leaves the body as it was.
+pub fn advance(body: &mut Body, writes: u16, kind: u8, node: u8) -> Result<Option<Write>, Refusal>
+    requires { Ready body.old }
+    ensures leaves { (history : List S.Write) → length history ≡ writes → Leaves history (of_kind (kind_of kind) node (state_of body.old history)) (left_by body.new result) }
+    ensures err { OnErr result (body.new ≡ body.old) }
 {
     let ask = Ask {
         count: body.count,
         running: body.running,
-        kind: kind,
-        node: node,
+        kind,
+        node,
     };
     if step_asks::at_row(ask) {
-        return at_row(body, writes, kind, node);
+        return at_row(body, writes, ask);
     }
     if step_asks::at_desk(ask) {
-        return at_desk(body, kind, node);
+        return at_desk(body, ask);
     }
-    at_board(body, kind, node)
+    at_board(body, ask)
 }

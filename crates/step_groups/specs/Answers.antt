@@ -10,7 +10,7 @@ use Rattle.rules.specs.Part.{Rule, done, need, decide}
 use Rattle.rules.specs.Parts.{Sender, Sent}
 use Rattle.rules.specs.Rules.{learn_rule, send_update_rule, receive_update_rule, send_write_rule, receive_write_rule, close_rule, close_room, closed, held_left, opens_left, responses_left, shutdown_rule, startup_rule}
 use Rattle.any_list.specs.Queue.{room-held}
-use Rattle.step_parts.specs.Hold.{no_request, pack_request, hold_request, requests_queue, hold_requests}
+use Rattle.step_parts.specs.Hold.{no_request, pack_request, hold_request, places, hold_requests}
 use Rattle.step_state.specs.Order.{OrderedStream}
 use Rattle.step_state.specs.Reads.{answer_of, inbox_of, sender_of, receiver_of, told_of, power_of}
 use Rattle.step_state.specs.declared.Controller.{Controller}
@@ -67,7 +67,7 @@ module _ (count : ℕ) (controller : Controller) (stream : Stream) (o : OrderedS
   unfolding decide
   send-answer r t h q =
       let full = leb queue_length stream.requests.len in
-      let f : room (hold_requests stream.requests) ≡ not full = room-held no_request pack_request hold_request (requests_queue stream.requests) o.requests in
+      let f : room (hold_requests stream.requests) ≡ not full = room-held no_request pack_request hold_request (places stream.requests) o.requests in
       rw (t, h, q, f) (go (r.allowed v) full)
     where
       go : (allowed full : Bool) → send_answer allowed full ≡ answer_of (need allowed not_allowed (need true term_limit (need true history_full (need (not full) queue_full (done step_done (r.effect v))))))

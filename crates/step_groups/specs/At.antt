@@ -5,8 +5,7 @@ use Rattle.rules.specs.Limits.{most_nodes}
 use Rattle.rules.specs.State as S
 use Rattle.rules.specs.Part.{Result}
 use Rattle.step_state.specs.declared.Body.{Body}
-use Rattle.step_state.specs.declared.Moved.{Moved}
-use Rattle.step_moves.specs.Bodies.{Ready, Leaves}
+use Rattle.step_moves.specs.Bodies.{Ready, Leaves, Left}
 
 -- A body in range, and one of its nodes.
 pub record At (b : Body) (n : ℕ) : Type 0 where
@@ -19,5 +18,5 @@ pub record At (b : Body) (n : ℕ) : Type 0 where
 pub row_in : (b : Body) (n : ℕ) → At b n → n - 1 < b.count
 row_in b n a = omega arith
 
-pub leaves-as : (n : ℕ) (history : List S.Write) (t : Result ℕ S.State) (r m : Moved) → m ≡ r → Leaves n history t r → Leaves n history t m
-leaves-as n history t r m e l = subst (λ (x : Moved). Leaves n history t x) (sym e) l
+pub leaves-as : (history : List S.Write) (t : Result ℕ S.State) (r m : Left) → m ≡ r → Leaves history t r → Leaves history t m
+leaves-as history t r m e l = subst (λ (x : Left). Leaves history t x) (sym e) l

@@ -1,6 +1,6 @@
 -- Steps of the switch and all streams, and steps that nothing calls for, on a body in range: the answer is the rules', and what is left is what
 -- they leave. Assumes nothing.
-use Rattle.std.specs.Prelude.{◌≡◌, ◌≢◌, ◌⊎◌, Bool, true, false, not, cond, List, ℕ, ◌≤◌}
+use Rattle.std.specs.Prelude.{◌≡◌, ◌≢◌, Bool, true, false, not, cond, List, ℕ, ◌≤◌}
 use Rattle.std.proofs.Math.Path.{refl}
 use Rattle.std.proofs.Common.{sym, ap, subst, ◌∙◌, ⊎_elim, arith, eq-eqb, ne_eqb}
 use Rattle.std.proofs.Math.Option.{Option, none, some}
@@ -109,7 +109,7 @@ module _ (b : Body) (ready : Ready b) (n k : ℕ) where
       }
 
       pub board-leaves : (history : List S.Write) (x : Board) → x ≡ board_after (ask_of b k n) b.core.streams b.core.claims
-          → Leaves n history (of_kind (kind_of k) n (state_of b history)) (plain step_done (with_board (runs_after (ask_of b k n)) x.streams x.claims b))
+          → Leaves history (of_kind (kind_of k) n (state_of b history)) (plain step_done (with_board (runs_after (ask_of b k n)) x.streams x.claims b))
       board-leaves history x e = go k (kind calls) calls done e
         where
           streams : List Stream
@@ -123,7 +123,7 @@ module _ (b : Body) (ready : Ready b) (n k : ℕ) where
 
           go : (j : ℕ) → BoardKind j → existence_of (kind_of j) b.count n ≡ step_done → switch_answer (ask_of b j n) b.core.streams b.core.claims ≡ step_done
               → x ≡ board_after (ask_of b j n) b.core.streams b.core.claims
-              → Leaves n history (of_kind (kind_of j) n (state_of b history)) (plain step_done (with_board (runs_after (ask_of b j n)) x.streams x.claims b))
+              → Leaves history (of_kind (kind_of j) n (state_of b history)) (plain step_done (with_board (runs_after (ask_of b j n)) x.streams x.claims b))
           go _ close c z e = let i = board-node b.count n 9 close (omega arith) c in
               called-leaves b n history 9 R.close refl i
               (tell_yes b n (at-node i) history (R.close_rule n) z x (e ∙ ap tells (close-effect b.count n b.running streams claims)) _ refl)
@@ -131,12 +131,12 @@ module _ (b : Body) (ready : Ready b) (n k : ℕ) where
               called-leaves b n history 10 R.handle_update refl i
               (tell_yes b n (at-node i) history (R.handle_update_rule n) z x (e ∙ ap tells (update-effect b.count n b.running streams claims)) _ refl)
           go _ shutdown c z e =
-              subst (λ (j : ℕ). Leaves j history (of_kind (kind_of 12) j (state_of b history)) (plain step_done (with_board false x.streams x.claims b)))
+              subst (λ (j : ℕ). Leaves history (of_kind (kind_of 12) j (state_of b history)) (plain step_done (with_board false x.streams x.claims b)))
               (sym (board-none b.count n 12 shutdown (omega arith) c))
               (called-leaves b 0 history 12 R.shutdown refl refl
               (shutdown-yes b ready history (is_true b.running (shutdown-answer b.count b.running streams claims ∙ z)) x e _ refl))
           go _ startup c z e =
-              subst (λ (j : ℕ). Leaves j history (of_kind (kind_of 13) j (state_of b history)) (plain step_done (with_board true x.streams x.claims b)))
+              subst (λ (j : ℕ). Leaves history (of_kind (kind_of 13) j (state_of b history)) (plain step_done (with_board true x.streams x.claims b)))
               (sym (board-none b.count n 13 startup (omega arith) c))
               (called-leaves b 0 history 13 R.startup refl refl
               (startup-yes b ready history (not-true b.running (is_true (not b.running) (startup-answer b.count b.running streams claims ∙ z)))

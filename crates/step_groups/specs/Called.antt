@@ -10,9 +10,11 @@ use Rattle.rules.specs.Rules.{Kind, class_of, rule}
 use Rattle.rules.specs.Step.{kind_of, called, act, at_node, of_kind}
 use Rattle.step_state.specs.Reads.{answer_of}
 use Rattle.step_state.specs.declared.Body.{Body}
-use Rattle.step_state.specs.declared.Moved.{Moved}
-use Rattle.step_moves.specs.Bodies.{state_of, body_of, Ready, Leaves}
+use Rattle.step_moves.specs.Bodies.{state_of, body_of, Ready, Leaves, Left}
 use Rattle.step_moves.specs.Acts.{plain, answered, stayed}
+use Rattle.step_parts.specs.Answers.{refusal_code}
+use Rattle.step_parts.specs.Refusals.{code-some}
+use Rattle.step_parts.specs.declared.Refusal.{Refusal}
 use Rattle.step_asks.specs.declared.Ask.{Ask}
 
 -- What is asked of a body.
@@ -33,8 +35,8 @@ module _ (b : Body) (n : ℕ) (history : List S.Write) (k : ℕ) (of : Kind) (is
       ∙ sym (answered (part (class_of of) n) s (rule of n))
       ∙ sym (ap (λ (t : Result ℕ S.State). t.answer) called-as)
 
-  pub called-leaves : {m : Moved} → Leaves n history (act of n (state_of b history)) m → Leaves n history (of_kind (kind_of k) n (state_of b history)) m
-  called-leaves {m} l = subst (λ (t : Result ℕ S.State). Leaves n history t m) (sym called-as) l
+  pub called-leaves : {m : Left} → Leaves history (act of n (state_of b history)) m → Leaves history (of_kind (kind_of k) n (state_of b history)) m
+  called-leaves {m} l = subst (λ (t : Result ℕ S.State). Leaves history t m) (sym called-as) l
 
 -- ---- a step that is not done
 
@@ -46,8 +48,12 @@ refused-stays n s (some k) h = go (called (class_of k) s.count n) h
     go true h = stayed (part (class_of k) n) s (rule k n) (λ z. h (answered (part (class_of k) n) s (rule k n) ∙ z))
     go false h = refl
 
-pub refused-leaves : (b : Body) → Ready b → (n : ℕ) (history : List S.Write) (o : Option Kind) (code : ℕ) → code ≡ (of_kind o n (state_of b history)).answer → code ≢ step_done
-    → Leaves n history (of_kind o n (state_of b history)) (plain code b)
+refused-leaves : (b : Body) → Ready b → (n : ℕ) (history : List S.Write) (o : Option Kind) (code : ℕ) → code ≡ (of_kind o n (state_of b history)).answer → code ≢ step_done
+    → Leaves history (of_kind o n (state_of b history)) (plain code b)
 refused-leaves b ready n history o code e h =
     let same = refused-stays n (state_of b history) o (λ z. h (e ∙ z)) in
-    record { code = e; body = sym ready.same ∙ sym (ap body_of same); history-grows = ap (λ (t : S.State). t.history) same ∙ sym (append-nil history); no-term = λ i. refl }
+    record { code = e; body = sym ready.same ∙ sym (ap body_of same); history-grows = ap (λ (t : S.State). t.history) same ∙ sym (append-nil history) }
+
+pub refused-by : (b : Body) → Ready b → (n : ℕ) (history : List S.Write) (o : Option Kind) (r : Refusal) → refusal_code r ≡ (of_kind o n (state_of b history)).answer
+    → Leaves history (of_kind o n (state_of b history)) (plain (refusal_code r) b)
+refused-by b ready n history o r e = refused-leaves b ready n history o (refusal_code r) e (code-some r)

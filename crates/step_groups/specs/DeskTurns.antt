@@ -55,12 +55,12 @@ module _ (b : Body) (n : ℕ) (a : At b n) where
     pub desk-posts : (k : ℕ) → DeskKind k → desk_answer (ask_of b k n) b.core.service b.core.controllers ≡ step_done
         → posting (ask_of b k n) b.core.service ≡ true → (x : Mastership) → x ≡ service_after (ask_of b k n) b.core.service
         → (l : List Controller) → l ≡ store_events (map (push (hold_mastership x)) (column events_at b.count b.core.controllers)) b.count b.core.controllers
-        → Leaves n history (of_kind (kind_of k) n (state_of b history)) (plain step_done (with_desk x l b))
+        → Leaves history (of_kind (kind_of k) n (state_of b history)) (plain step_done (with_desk x l b))
     desk-posts _ join z p x e l f = called-leaves b n history 1 R.join refl is-node (join-yes b n a z history x e l f _ refl)
     desk-posts _ leave z p x e l f = called-leaves b n history 2 R.leave refl is-node (leave-posts b n a z p history x e l f _ refl)
 
     pub desk-quiet : (k : ℕ) → DeskKind k → desk_answer (ask_of b k n) b.core.service b.core.controllers ≡ step_done
         → posting (ask_of b k n) b.core.service ≡ false → (x : Mastership) → x ≡ service_after (ask_of b k n) b.core.service
-        → Leaves n history (of_kind (kind_of k) n (state_of b history)) (plain step_done (with_desk x b.core.controllers b))
+        → Leaves history (of_kind (kind_of k) n (state_of b history)) (plain step_done (with_desk x b.core.controllers b))
     desk-quiet _ join z p x e = let w : ◌≡◌ {A = ℕ} 0 1 = cc in absurd (omega arith)
     desk-quiet _ leave z p x e = called-leaves b n history 2 R.leave refl is-node (leave-quiet b n a z p history x e _ refl)

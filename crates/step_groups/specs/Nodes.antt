@@ -27,9 +27,8 @@ use Rattle.step_state.specs.Stores.{store_inbox, store_sent, store_says, store_r
 use Rattle.step_state.specs.declared.Controller.{Controller}
 use Rattle.step_state.specs.declared.Stream.{Stream}
 use Rattle.step_state.specs.declared.Body.{Body}
-use Rattle.step_state.specs.declared.Moved.{Moved}
 use Rattle.step_nodes.specs.Waiting.{send_answer, update_waits, write_waits, Waits, received}
-use Rattle.step_moves.specs.Bodies.{state_of, Leaves}
+use Rattle.step_moves.specs.Bodies.{state_of, Leaves, Left}
 use Rattle.step_moves.specs.Sets.{with_desk, with_controller, with_stream}
 use Rattle.step_moves.specs.Gets.{controller_of, stream_of, inbox-read, sender-read, receiver-read}
 use Rattle.step_moves.specs.Stored.{fits-core, in-order-controllers, in-order-board, inbox-stored-at, sent-stored-at, received-stored-at}
@@ -47,12 +46,12 @@ module _ (b : Body) (n : ℕ) (a : At b n) where
     -- ---- 3 Learn
 
     pub learn-yes : learn_rule.allowed (inbox_of (controller_of b n)) ≡ true → (x : Controller) → x ≡ store_inbox (learn_rule.effect (inbox_of (controller_of b n))) (controller_of b n)
-        → (m : Moved) → m ≡ plain step_done (with_controller n x b) → Leaves n history (act learns n (state_of b history)) m
+        → (m : Left) → m ≡ plain step_done (with_controller n x b) → Leaves history (act learns n (state_of b history)) m
     unfolding learn_rule
     learn-yes h x f m e = let v = inbox_of (controller_of b n) in
-        leaves-as n history _ (plain step_done (with_controller n x b)) m e
-        (done_at (learn_part n) learn_rule n b a.ready history v (inbox-read b n (row_in b n a) history) (record { allowed = rw h tt; term = tt; history = tt; queues = tt })
-        (plain step_done (with_controller n x b)) refl (λ i. refl)
+        leaves-as history _ (plain step_done (with_controller n x b)) m e
+        (done_at (learn_part n) learn_rule b a.ready history v (inbox-read b n (row_in b n a) history) (record { allowed = rw h tt; term = tt; history = tt; queues = tt })
+        (plain step_done (with_controller n x b)) refl
         (ap (λ (y : Controller). with_controller n y b) f ∙ inbox-stored-at b a.ready history n (row_in b n a) (learn_rule.effect v)) (sym (append-nil history)))
 
     -- ---- 4, 6 Send: for either rule
@@ -63,10 +62,10 @@ module _ (b : Body) (n : ℕ) (a : At b n) where
 
       pub send-yes : answer_of (decide r (sender_of b.count (controller_of b n) (stream_of b n))) ≡ step_done
           → (x : Stream) → x ≡ store_sent (r.effect (sender_of b.count (controller_of b n) (stream_of b n))) (stream_of b n)
-          → (m : Moved) → m ≡ plain step_done (with_stream n x b) → Leaves n history (via (send_part n) (decide r) (state_of b history)) m
+          → (m : Left) → m ≡ plain step_done (with_stream n x b) → Leaves history (via (send_part n) (decide r) (state_of b history)) m
       send-yes h x f m e =
-          leaves-as n history _ (plain step_done (with_stream n x b)) m e
-          (done_at (send_part n) r n b a.ready history v (sender-read b n (row_in b n a) history) (passes r v h) (plain step_done (with_stream n x b)) refl (λ i. refl)
+          leaves-as history _ (plain step_done (with_stream n x b)) m e
+          (done_at (send_part n) r b a.ready history v (sender-read b n (row_in b n a) history) (passes r v h) (plain step_done (with_stream n x b)) refl
           (ap (λ (y : Stream). with_stream n y b) f ∙ sent-stored-at b a.ready history n (row_in b n a) (r.effect v)) (sym (append-nil history)))
 
     -- ---- 5, 7 Receive: for either rule
@@ -76,20 +75,20 @@ module _ (b : Body) (n : ℕ) (a : At b n) where
       u = receiver_of b.count (controller_of b n) (stream_of b n)
 
       pub receive-yes : Passes r (receiver_of b.count (controller_of b n) (stream_of b n)) → (x : Controller) → x ≡ store_says (r.effect (receiver_of b.count (controller_of b n) (stream_of b n))) (controller_of b n)
-          → (y : Stream) → y ≡ store_received (r.effect (receiver_of b.count (controller_of b n) (stream_of b n))) (stream_of b n) → (m : Moved)
-          → m ≡ plain step_done (with_controller n x (with_stream n y b)) → Leaves n history (via (receive_part n) (decide r) (state_of b history)) m
+          → (y : Stream) → y ≡ store_received (r.effect (receiver_of b.count (controller_of b n) (stream_of b n))) (stream_of b n) → (m : Left)
+          → m ≡ plain step_done (with_controller n x (with_stream n y b)) → Leaves history (via (receive_part n) (decide r) (state_of b history)) m
       receive-yes p x f y g m e =
-          leaves-as n history _ (plain step_done (with_controller n x (with_stream n y b))) m e
-          (done_at (receive_part n) r n b a.ready history u (receiver-read b n (row_in b n a) history) p (plain step_done (with_controller n x (with_stream n y b))) refl (λ i. refl)
+          leaves-as history _ (plain step_done (with_controller n x (with_stream n y b))) m e
+          (done_at (receive_part n) r b a.ready history u (receiver-read b n (row_in b n a) history) p (plain step_done (with_controller n x (with_stream n y b))) refl
           (ap₂ (λ (q : Controller) (t : Stream). with_controller n q (with_stream n t b)) f g ∙ received-stored-at b a.ready history n (row_in b n a) (r.effect u)) (sym (append-nil history)))
 
     pub receive-update-yes : update_waits (stream_of b n) ≡ true → (x : Controller) → x ≡ store_says ((receive_update_rule n).effect (receiver_of b.count (controller_of b n) (stream_of b n))) (controller_of b n)
-        → (y : Stream) → y ≡ received (stream_of b n) → (m : Moved) → m ≡ plain step_done (with_controller n x (with_stream n y b)) → Leaves n history (act receive_update n (state_of b history)) m
+        → (y : Stream) → y ≡ received (stream_of b n) → (m : Left) → m ≡ plain step_done (with_controller n x (with_stream n y b)) → Leaves history (act receive_update n (state_of b history)) m
     unfolding receive_update_rule
     receive-update-yes h x f y g m e = receive-yes (receive_update_rule n) (record { allowed = rw h tt; term = tt; history = tt; queues = tt }) x f y g m e
 
-    pub receive-write-yes : write_waits (stream_of b n) ≡ true → (y : Stream) → y ≡ received (stream_of b n) → (m : Moved) → m ≡ plain step_done (with_stream n y b)
-        → Leaves n history (act receive_write n (state_of b history)) m
+    pub receive-write-yes : write_waits (stream_of b n) ≡ true → (y : Stream) → y ≡ received (stream_of b n) → (m : Left) → m ≡ plain step_done (with_stream n y b)
+        → Leaves history (act receive_write n (state_of b history)) m
     unfolding receive_write_rule
     receive-write-yes h y g m e =
         let same : with_stream n y b ≡ with_controller n (controller_of b n) (with_stream n y b) =

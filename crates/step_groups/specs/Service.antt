@@ -26,10 +26,9 @@ use Rattle.step_state.specs.Reads.{answer_of}
 use Rattle.step_state.specs.Stores.{store_events}
 use Rattle.step_state.specs.declared.Controller.{Controller}
 use Rattle.step_state.specs.declared.Body.{Body}
-use Rattle.step_state.specs.declared.Moved.{Moved}
 use Rattle.step_bridge.specs.InOrder.{service-short}
 use Rattle.step_service.specs.Asks.{Joins, Leaving}
-use Rattle.step_moves.specs.Bodies.{state_of, Leaves}
+use Rattle.step_moves.specs.Bodies.{state_of, Leaves, Left}
 use Rattle.step_moves.specs.Sets.{with_desk}
 use Rattle.step_moves.specs.Stored.{fits-core, in-order-controllers, in-order-service, desk-stored}
 use Rattle.step_moves.specs.Acts.{plain, done_at, passes}
@@ -55,11 +54,11 @@ module _ (b : Body) (n : ℕ) (a : At b n) where
   -- where every test holds: the service's mastership, and all event queues
   service-yes : (r : Rule S.Desk S.Desk) (history : List S.Write) → Passes r (desk_at b)
       → (x : Mastership) → x ≡ pack_mastership (r.effect (desk_at b)).service → (l : List Controller) → l ≡ store_events (r.effect (desk_at b)).events b.count b.core.controllers
-      → (m : Moved) → m ≡ plain step_done (with_desk x l b) → Leaves n history (via service_part (decide r) (state_of b history)) m
+      → (m : Left) → m ≡ plain step_done (with_desk x l b) → Leaves history (via service_part (decide r) (state_of b history)) m
   unfolding hold_core
   service-yes r history p x f l g m e =
-      leaves-as n history _ (plain step_done (with_desk x l b)) m e
-      (done_at service_part r n b a.ready history (desk_at b) refl p (plain step_done (with_desk x l b)) refl (λ i. refl)
+      leaves-as history _ (plain step_done (with_desk x l b)) m e
+      (done_at service_part r b a.ready history (desk_at b) refl p (plain step_done (with_desk x l b)) refl
       (ap₂ (λ (y : Mastership) (k : List Controller). with_desk y k b) f g ∙ desk-stored b a.ready history (r.effect (desk_at b))) (sym (append-nil history)))
 
   -- ---- 1 Join
@@ -94,7 +93,7 @@ module _ (b : Body) (n : ℕ) (a : At b n) where
 
     pub join-yes : (history : List S.Write) (x : Mastership) → x ≡ pack_mastership (joined n (hold_mastership b.core.service))
         → (l : List Controller) → l ≡ store_events (map (push (hold_mastership x)) (column events_at b.count b.core.controllers)) b.count b.core.controllers
-        → (m : Moved) → m ≡ plain step_done (with_desk x l b) → Leaves n history (via service_part (decide (join_rule n)) (state_of b history)) m
+        → (m : Left) → m ≡ plain step_done (with_desk x l b) → Leaves history (via service_part (decide (join_rule n)) (state_of b history)) m
     unfolding join_rule posted hold_desk
     join-yes history x f l g m e =
         let h : hold_mastership x ≡ joined n (hold_mastership b.core.service) = ap hold_mastership f ∙ mastership-back (joined n (hold_mastership b.core.service)) in
@@ -135,7 +134,7 @@ module _ (b : Body) (n : ℕ) (a : At b n) where
 
     pub leave-posts : hands_over n (hold_mastership b.core.service) ≡ true → (history : List S.Write) (x : Mastership) → x ≡ pack_mastership (left n (hold_mastership b.core.service))
         → (l : List Controller) → l ≡ store_events (map (push (hold_mastership x)) (column events_at b.count b.core.controllers)) b.count b.core.controllers
-        → (m : Moved) → m ≡ plain step_done (with_desk x l b) → Leaves n history (via service_part (decide (leave_rule n)) (state_of b history)) m
+        → (m : Left) → m ≡ plain step_done (with_desk x l b) → Leaves history (via service_part (decide (leave_rule n)) (state_of b history)) m
     unfolding leave_rule posted hold_desk
     leave-posts o history x f l g m e =
         let h : hold_mastership x ≡ left n service = ap hold_mastership f ∙ mastership-back (left n service) in
@@ -145,7 +144,7 @@ module _ (b : Body) (n : ℕ) (a : At b n) where
         ∙ ap (λ (d : S.Desk). store_events d.events b.count b.core.controllers) (sym k)) m e
 
     pub leave-quiet : hands_over n (hold_mastership b.core.service) ≡ false → (history : List S.Write) (x : Mastership) → x ≡ pack_mastership (left n (hold_mastership b.core.service))
-        → (m : Moved) → m ≡ plain step_done (with_desk x b.core.controllers b) → Leaves n history (via service_part (decide (leave_rule n)) (state_of b history)) m
+        → (m : Left) → m ≡ plain step_done (with_desk x b.core.controllers b) → Leaves history (via service_part (decide (leave_rule n)) (state_of b history)) m
     unfolding leave_rule unposted hold_desk
     leave-quiet o history x f m e =
         let k : (leave_rule n).effect (desk_at b) ≡ unposted (left n service) (desk_at b) = simp o in

@@ -1,5 +1,5 @@
 -- What a step answers and leaves, by its group, on the structs that the group concerns.
-use Rattle.std.specs.Prelude.{Bool, true, false, cond, List, [], ◌∷◌, ℕ, ◌-◌, eqb, get_or}
+use Rattle.std.specs.Prelude.{Bool, true, cond, None, List, [], ◌∷◌, ℕ, ◌-◌, eqb, get_or}
 use Rattle.rules.specs.Codes.{step_done}
 use Rattle.rules.specs.Part.{decide}
 use Rattle.rules.specs.Rules.{join_rule, leave_rule, joined, left, hands_over, learn_rule, send_update_rule, receive_update_rule, send_write_rule, receive_write_rule, connect_rule, close_rule, handle_update_rule, handle_write_rule, shutdown_rule, startup_rule, cleared, join, learns, send_update, close}
@@ -55,8 +55,8 @@ board_answer a streams claims = cond (eqb (existence a) step_done) (switch_answe
 -- ---- what is left
 
 -- The stream alone has changed.
-abbrev pub quiet : Ask → Controller → Claims → Stream → Row
-quiet a controller claims stream = record { stream = stream; says = controller.says; claims = claims; entry = record { accepted = false; node = a.node; term = record { 0 = 0 } } }
+abbrev pub quiet : Controller → Claims → Stream → Row
+quiet controller claims stream = record { stream = stream; says = controller.says; claims = claims; accepted = None }
 
 -- Receive update: the flag too.
 abbrev pub flagged_row : Ask → Controller → Stream → Claims → Row
@@ -64,29 +64,29 @@ flagged_row a controller stream claims = record {
   stream = received stream;
   says = ((receive_update_rule a.node).effect (receiver_of a.count controller stream)).says;
   claims = claims;
-  entry = record { accepted = false; node = a.node; term = record { 0 = 0 } };
+  accepted = None;
 }
 
 -- Handle write: the last accepted term, and the write.
-abbrev pub handled_row : Ask → Controller → Claims → Handled → Row
-handled_row a controller claims h = record {
+abbrev pub handled_row : Controller → Claims → Handled → Row
+handled_row controller claims h = record {
   stream = h.stream;
   says = controller.says;
   claims = record { ids = claims.ids; terms = claims.terms; elected = claims.elected; last = h.last };
-  entry = record { accepted = h.accepted; node = a.node; term = h.term };
+  accepted = h.accepted;
 }
 
 abbrev pub written_row : Ask → Controller → Stream → Claims → Row
-written_row a controller stream claims = handled_row a controller claims (store_handled ((handle_write_rule a.node).effect (served_of a.node true stream claims 0)) stream)
+written_row a controller stream claims = handled_row controller claims (store_handled ((handle_write_rule a.node).effect (served_of a.node true stream claims 0)) stream)
 
 -- Kinds 4 to 8, and 11.
 abbrev pub row_after : Ask → Controller → Stream → Claims → Row
 row_after a controller stream claims =
-    get_or (quiet a controller claims (store_sent ((send_update_rule a.node).effect (sender_of a.count controller stream)) stream)
+    get_or (quiet controller claims (store_sent ((send_update_rule a.node).effect (sender_of a.count controller stream)) stream)
     ∷ flagged_row a controller stream claims
-    ∷ quiet a controller claims (store_sent ((send_write_rule a.node).effect (sender_of a.count controller stream)) stream)
-    ∷ quiet a controller claims (received stream)
-    ∷ quiet a controller claims (store_open true stream) ∷ []) (a.kind - number_of send_update)
+    ∷ quiet controller claims (store_sent ((send_write_rule a.node).effect (sender_of a.count controller stream)) stream)
+    ∷ quiet controller claims (received stream)
+    ∷ quiet controller claims (store_open true stream) ∷ []) (a.kind - number_of send_update)
     (written_row a controller stream claims)
 
 -- Kinds 1 and 2: the service's mastership, and whether the nodes hear of it.

@@ -1,11 +1,15 @@
 -- A body and a history are a state of the rules; what a step of the code leaves, said by the step of the rules.
-use Rattle.std.specs.Prelude.{◌≡◌, false, cond, List, [], ◌∷◌, ◌++◌, ℕ, T}
+use Rattle.std.specs.Prelude.{◌≡◌, List, [], ◌++◌, ℕ, T, Option, None, Result, Ok, Err}
+use Rattle.rules.specs.Codes.{step_done}
 use Rattle.rules.specs.State as S
 use Rattle.rules.specs.Range.{in_range}
-use Rattle.rules.specs.Part.{Result}
+use Rattle.rules.specs.Part as R
+use Rattle.step_parts.specs.Answers.{refusal_code}
+use Rattle.step_parts.specs.declared.Refusal.{Refusal}
+use Rattle.step_parts.specs.declared.Write.{Write}
 use Rattle.step_state.specs.Hold.{hold_core, pack_core}
+use Rattle.step_state.specs.Stores.{hold_accepted}
 use Rattle.step_state.specs.declared.Body.{Body}
-use Rattle.step_state.specs.declared.Moved.{Moved}
 
 -- The state that a body holds, with a history beside it.
 abbrev pub state_of : Body → List S.Write → S.State
@@ -20,14 +24,19 @@ pub record Ready (b : Body) : Type 0 where
   pub fits : T (in_range (state_of b []))
   pub same : body_of (state_of b []) ≡ b
 
--- The write that a step at node n accepted, if it did.
-abbrev pub accepted_in : ℕ → Moved → List S.Write
-accepted_in n r = cond r.accepted (record { node = n; term = r.term.0 } ∷ []) []
+-- What a step leaves: the number of its answer, the body, and the write that it accepted, if it did.
+pub record Left : Type 0 where
+  pub code : ℕ
+  pub body : Body
+  pub accepted : Option Write
 
--- The code's step at node n left what the rules' step leaves.
-pub record Leaves (n : ℕ) (history : List S.Write) (t : Result ℕ S.State) (r : Moved) : Type 0 where
+-- What a step of the code left, which answered so.
+abbrev pub left_by : Body → Result (Option Write) Refusal → Left
+left_by b (Ok o) = record { code = step_done; body = b; accepted = o }
+left_by b (Err r) = record { code = refusal_code r; body = b; accepted = None }
+
+-- It is what the rules' step leaves.
+pub record Leaves (history : List S.Write) (t : R.Result ℕ S.State) (r : Left) : Type 0 where
   pub code : r.code ≡ t.answer
   pub body : r.body ≡ body_of t.state
-  pub history-grows : t.state.history ≡ history ++ accepted_in n r
-  -- Where it accepted no write, the term is 0.
-  pub no-term : r.accepted ≡ false → r.term.0 ≡ 0
+  pub history-grows : t.state.history ≡ history ++ hold_accepted r.accepted

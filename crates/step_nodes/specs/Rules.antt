@@ -14,12 +14,10 @@ use Rattle.rules.specs.Rules.{learn_rule, send_update_rule, receive_update_rule,
 use Rattle.rules.specs.Rules as R
 use Rattle.any_list.specs.Arrays.{Queue, packed}
 use Rattle.any_list.specs.Queue.{head-held, empty-held}
-use Rattle.step_parts.specs.Hold.{pack_mastership, hold_mastership, no_mastership, past_mastership, events_queue, hold_events, pack_response, hold_response, no_response, responses_queue, hold_responses, hold_message, hold_status}
+use Rattle.step_parts.specs.Hold.{pack_mastership, hold_mastership, no_mastership, past_mastership, places, hold_events, pack_response, hold_response, no_response, hold_responses, hold_message, hold_status, EventQueue, ResponseQueue}
 use Rattle.step_parts.specs.Ordered.{OrderedEvents, OrderedResponses, response-back}
 use Rattle.step_parts.specs.declared.Mastership.{Mastership}
 use Rattle.step_parts.specs.declared.Response.{Response}
-use Rattle.step_parts.specs.declared.EventQueue.{EventQueue}
-use Rattle.step_parts.specs.declared.ResponseQueue.{ResponseQueue}
 use Rattle.step_state.specs.Order.{OrderedController, OrderedStream}
 use Rattle.step_state.specs.Reads.{inbox_of, sender_of, receiver_of}
 use Rattle.step_state.specs.declared.Controller.{Controller}
@@ -38,13 +36,13 @@ head-event q o = ap (λ (p : Queue Mastership). get_or p.items 0 past_mastership
     go (x ∷ l) = refl
 
 pub head-response : (q : ResponseQueue) → OrderedResponses q → empty (hold_responses q) ≡ false → get_or q.items 0 no_response ≡ pack_response (first R.no_response (hold_responses q))
-head-response q o e = head-held no_response pack_response hold_response (responses_queue q) o no_response R.no_response e
+head-response q o e = head-held no_response pack_response hold_response (places q) o no_response R.no_response e
 
 pub none-waits : (q : ResponseQueue) → OrderedResponses q → q.len ≡ 0 → empty (hold_responses q) ≡ true
-none-waits q o e = empty-held no_response pack_response hold_response (responses_queue q) o ∙ eq-eqb q.len 0 e
+none-waits q o e = empty-held no_response pack_response hold_response (places q) o ∙ eq-eqb q.len 0 e
 
 pub some-waits : (q : ResponseQueue) → OrderedResponses q → q.len ≢ 0 → empty (hold_responses q) ≡ false
-some-waits q o e = empty-held no_response pack_response hold_response (responses_queue q) o ∙ ne_eqb q.len 0 e
+some-waits q o e = empty-held no_response pack_response hold_response (places q) o ∙ ne_eqb q.len 0 e
 
 pub head-message : (q : ResponseQueue) (o : OrderedResponses q) → empty (hold_responses q) ≡ false
     → hold_message (get_or q.items 0 no_response).message ≡ (first R.no_response (hold_responses q)).message
@@ -60,12 +58,12 @@ update-or-write S.write = refl
 module _ (r : Controller) (o : OrderedController r) where
   pub learn-none : r.events.len ≡ 0 → false ≡ learn_rule.allowed (inbox_of r)
   unfolding learn_rule
-  learn-none e = simp (empty-held no_mastership pack_mastership hold_mastership (events_queue r.events) o.events, eq-eqb r.events.len 0 e)
+  learn-none e = simp (empty-held no_mastership pack_mastership hold_mastership (places r.events) o.events, eq-eqb r.events.len 0 e)
 
   pub learn-some : r.events.len ≢ 0 → leb r.learned.term.0 (get_or r.events.items 0 past_mastership).term.0 ≡ learn_rule.allowed (inbox_of r)
   unfolding learn_rule
   learn-some e =
-      simp (empty-held no_mastership pack_mastership hold_mastership (events_queue r.events) o.events, ne_eqb r.events.len 0 e)
+      simp (empty-held no_mastership pack_mastership hold_mastership (places r.events) o.events, ne_eqb r.events.len 0 e)
       (ap (λ (m : Mastership). leb r.learned.term.0 m.term.0) (head-event r.events o.events))
 
 -- ---- 5, 7 Receive

@@ -2,7 +2,8 @@
 use Rattle.std.specs.Prelude.{List, [], ℕ, length, take}
 use Rattle.rules.specs.Limits.{most_backups}
 use Rattle.rules.specs.State as S
-use Rattle.any_list.specs.Arrays.{padded, Queue, packed, held}
+use Rattle.any_list.specs.Arrays.{padded, packed, held}
+use Rattle.any_list.specs.Arrays as A
 use Rattle.step_parts.specs.declared.Mastership.{Mastership}
 use Rattle.step_parts.specs.declared.Message.{Message}
 use Rattle.step_parts.specs.declared.Message.TheVariants as M
@@ -10,9 +11,7 @@ use Rattle.step_parts.specs.declared.Status.{Status}
 use Rattle.step_parts.specs.declared.Status.TheVariants as T
 use Rattle.step_parts.specs.declared.Request.{Request}
 use Rattle.step_parts.specs.declared.Response.{Response}
-use Rattle.step_parts.specs.declared.EventQueue.{EventQueue}
-use Rattle.step_parts.specs.declared.RequestQueue.{RequestQueue}
-use Rattle.step_parts.specs.declared.ResponseQueue.{ResponseQueue}
+use Rattle.step_parts.specs.declared.Queue.{Queue}
 use Rattle.step_parts.specs.declared.Write.{Write}
 
 -- ---- masterships
@@ -85,40 +84,46 @@ hold_write e = record { node = e.node; term = e.term.0 }
 abbrev pub pack_write : S.Write → Write
 pack_write e = record { node = e.node; term = record { 0 = e.term } }
 
--- ---- the three queues, each an instance of the one queue
+-- ---- the queues, stated once, over the element type
 
-abbrev pub events_queue : EventQueue → Queue Mastership
-events_queue q = record { items = q.items; len = q.len }
+abbrev pub places : {T : Type 0} → Queue T → A.Queue T
+places q = record { items = q.items; len = q.len }
 
-abbrev pub of_events : Queue Mastership → EventQueue
-of_events q = record { items = q.items; len = q.len }
+abbrev pub of_places : {T : Type 0} → A.Queue T → Queue T
+of_places q = record { items = q.items; len = q.len }
 
-abbrev pub requests_queue : RequestQueue → Queue Request
-requests_queue q = record { items = q.items; len = q.len }
+-- A list of the rules in a queue, each element written by `rep`, and the list that a queue holds, each read by `hold`.
+abbrev pub pack_queue : {X T : Type 0} → T → (X → T) → List X → Queue T
+pack_queue blank rep l = of_places (packed blank rep l)
 
-abbrev pub of_requests : Queue Request → RequestQueue
-of_requests q = record { items = q.items; len = q.len }
+abbrev pub hold_queue : {X T : Type 0} → (T → X) → Queue T → List X
+hold_queue hold q = held hold (places q)
 
-abbrev pub responses_queue : ResponseQueue → Queue Response
-responses_queue q = record { items = q.items; len = q.len }
+-- ---- the three queues
 
-abbrev pub of_responses : Queue Response → ResponseQueue
-of_responses q = record { items = q.items; len = q.len }
+abbrev pub EventQueue : Type 0
+EventQueue = Queue Mastership
+
+abbrev pub RequestQueue : Type 0
+RequestQueue = Queue Request
+
+abbrev pub ResponseQueue : Type 0
+ResponseQueue = Queue Response
 
 abbrev pub pack_events : List S.Mastership → EventQueue
-pack_events l = of_events (packed no_mastership pack_mastership l)
+pack_events l = pack_queue no_mastership pack_mastership l
 
 abbrev pub hold_events : EventQueue → List S.Mastership
-hold_events q = held hold_mastership (events_queue q)
+hold_events q = hold_queue hold_mastership q
 
 abbrev pub pack_requests : List S.Request → RequestQueue
-pack_requests l = of_requests (packed no_request pack_request l)
+pack_requests l = pack_queue no_request pack_request l
 
 abbrev pub hold_requests : RequestQueue → List S.Request
-hold_requests q = held hold_request (requests_queue q)
+hold_requests q = hold_queue hold_request q
 
 abbrev pub pack_responses : List S.Response → ResponseQueue
-pack_responses l = of_responses (packed no_response pack_response l)
+pack_responses l = pack_queue no_response pack_response l
 
 abbrev pub hold_responses : ResponseQueue → List S.Response
-hold_responses q = held hold_response (responses_queue q)
+hold_responses q = hold_queue hold_response q

@@ -7,12 +7,10 @@ use Rattle.rules.specs.Queues.{push, rest}
 use Rattle.rules.specs.State as S
 use Rattle.any_list.specs.Arrays.{padded}
 use Rattle.any_list.specs.Queue.{Ordered, ordered-packed, push-held, pop-held}
-use Rattle.step_parts.specs.Hold.{hold_mastership, pack_mastership, no_mastership, as_is, hold_message, pack_message, hold_status, pack_status, hold_request, pack_request, no_request, hold_response, pack_response, no_response, events_queue, of_events, requests_queue, of_requests, responses_queue, of_responses, pack_events, hold_events, pack_requests, hold_requests, pack_responses, hold_responses}
-use Rattle.step_parts.specs.Queues.{push_event, pop_event, push_request, pop_request, push_response, pop_response}
+use Rattle.step_parts.specs.Hold.{hold_mastership, pack_mastership, no_mastership, as_is, hold_message, pack_message, hold_status, pack_status, hold_request, pack_request, no_request, hold_response, pack_response, no_response, places, of_places, pack_queue, hold_queue, EventQueue, RequestQueue, ResponseQueue, pack_events, hold_events, pack_requests, hold_requests, pack_responses, hold_responses}
+use Rattle.step_parts.specs.Queues.{with_last, without_first}
 use Rattle.step_parts.specs.declared.Mastership.{Mastership}
-use Rattle.step_parts.specs.declared.EventQueue.{EventQueue}
-use Rattle.step_parts.specs.declared.RequestQueue.{RequestQueue}
-use Rattle.step_parts.specs.declared.ResponseQueue.{ResponseQueue}
+use Rattle.step_parts.specs.declared.Queue.{Queue}
 
 -- ---- what was written is held
 
@@ -47,13 +45,13 @@ pub record OrderedMastership (m : Mastership) : Type 0 where
   pub short : length (hold_mastership m).backups ≤ most_backups
 
 abbrev pub OrderedEvents : EventQueue → Type 0
-OrderedEvents q = Ordered no_mastership pack_mastership hold_mastership (events_queue q)
+OrderedEvents q = Ordered no_mastership pack_mastership hold_mastership (places q)
 
 abbrev pub OrderedRequests : RequestQueue → Type 0
-OrderedRequests q = Ordered no_request pack_request hold_request (requests_queue q)
+OrderedRequests q = Ordered no_request pack_request hold_request (places q)
 
 abbrev pub OrderedResponses : ResponseQueue → Type 0
-OrderedResponses q = Ordered no_response pack_response hold_response (responses_queue q)
+OrderedResponses q = Ordered no_response pack_response hold_response (places q)
 
 pub ordered-mastership : (m : S.Mastership) → length m.backups ≤ most_backups → OrderedMastership (pack_mastership m)
 ordered-mastership m h = record { same = ap pack_mastership (mastership-back m); short = rw (taken most_backups m.backups) h }
@@ -69,26 +67,30 @@ ordered-responses l h = ordered-packed no_response pack_response hold_response r
 
 -- ---- appending and taking off
 
-pub push-events : (q : EventQueue) (m : S.Mastership) → OrderedEvents q → leb queue_length q.len ≡ false → push_event q (pack_mastership m) ≡ pack_events (push m (hold_events q))
-unfolding push_event
-push-events q m o f = ap of_events (push-held no_mastership pack_mastership hold_mastership (events_queue q) o m f)
+-- Stated once, over the element type.
+module _ {X T : Type 0} (blank : T) (rep : X → T) (hold : T → X) (q : Queue T) (o : Ordered blank rep hold (places q)) where
+  pub push-places : (x : X) → leb queue_length q.len ≡ false → with_last q (rep x) ≡ pack_queue blank rep (push x (hold_queue hold q))
+  unfolding with_last
+  push-places x f = ap of_places (push-held blank rep hold (places q) o x f)
 
-pub pop-events : (q : EventQueue) → OrderedEvents q → pop_event q ≡ pack_events (rest (hold_events q))
-unfolding pop_event
-pop-events q o = ap of_events (pop-held no_mastership pack_mastership hold_mastership (events_queue q) o)
+  pub pop-places : without_first blank q ≡ pack_queue blank rep (rest (hold_queue hold q))
+  unfolding without_first
+  pop-places = ap of_places (pop-held blank rep hold (places q) o)
 
-pub push-requests : (q : RequestQueue) (r : S.Request) → OrderedRequests q → leb queue_length q.len ≡ false → push_request q (pack_request r) ≡ pack_requests (push r (hold_requests q))
-unfolding push_request
-push-requests q r o f = ap of_requests (push-held no_request pack_request hold_request (requests_queue q) o r f)
+pub push-events : (q : EventQueue) (m : S.Mastership) → OrderedEvents q → leb queue_length q.len ≡ false → with_last q (pack_mastership m) ≡ pack_events (push m (hold_events q))
+push-events q m o f = push-places no_mastership pack_mastership hold_mastership q o m f
 
-pub pop-requests : (q : RequestQueue) → OrderedRequests q → pop_request q ≡ pack_requests (rest (hold_requests q))
-unfolding pop_request
-pop-requests q o = ap of_requests (pop-held no_request pack_request hold_request (requests_queue q) o)
+pub pop-events : (q : EventQueue) → OrderedEvents q → without_first no_mastership q ≡ pack_events (rest (hold_events q))
+pop-events q o = pop-places no_mastership pack_mastership hold_mastership q o
 
-pub push-responses : (q : ResponseQueue) (r : S.Response) → OrderedResponses q → leb queue_length q.len ≡ false → push_response q (pack_response r) ≡ pack_responses (push r (hold_responses q))
-unfolding push_response
-push-responses q r o f = ap of_responses (push-held no_response pack_response hold_response (responses_queue q) o r f)
+pub push-requests : (q : RequestQueue) (r : S.Request) → OrderedRequests q → leb queue_length q.len ≡ false → with_last q (pack_request r) ≡ pack_requests (push r (hold_requests q))
+push-requests q r o f = push-places no_request pack_request hold_request q o r f
 
-pub pop-responses : (q : ResponseQueue) → OrderedResponses q → pop_response q ≡ pack_responses (rest (hold_responses q))
-unfolding pop_response
-pop-responses q o = ap of_responses (pop-held no_response pack_response hold_response (responses_queue q) o)
+pub pop-requests : (q : RequestQueue) → OrderedRequests q → without_first no_request q ≡ pack_requests (rest (hold_requests q))
+pop-requests q o = pop-places no_request pack_request hold_request q o
+
+pub push-responses : (q : ResponseQueue) (r : S.Response) → OrderedResponses q → leb queue_length q.len ≡ false → with_last q (pack_response r) ≡ pack_responses (push r (hold_responses q))
+push-responses q r o f = push-places no_response pack_response hold_response q o r f
+
+pub pop-responses : (q : ResponseQueue) → OrderedResponses q → without_first no_response q ≡ pack_responses (rest (hold_responses q))
+pop-responses q o = pop-places no_response pack_response hold_response q o

@@ -1,12 +1,14 @@
 // What the state is made of: terms, election ids, accepted writes, masterships, messages and their queues.
 #![tactic(auto)]
 
-ghost use Rattle.std.specs.Prelude.{◌≡◌, ◌≤◌, leb, []};
+ghost use Rattle.std.specs.Prelude.{◌≡◌, ℕ, ◌≤◌, leb};
 ghost use Rattle.rules.specs.Limits.{top_id, queue_length};
 ghost use Rattle.rules.specs.Range.{within};
 ghost use Rattle.rules.specs.Ids.{election_id, term_of, named, place_of};
-ghost use Rattle.step_parts.specs.Hold.{hold_mastership, no_mastership, no_request, no_response, pack_events, pack_requests, pack_responses};
-ghost use Rattle.step_parts.specs.Queues.{push_event, pop_event, push_request, pop_request, push_response, pop_response};
+ghost use Rattle.step_parts.specs.Hold.{hold_mastership, no_mastership, no_request, no_response};
+ghost use Rattle.step_parts.specs.Answers.{code_of};
+ghost use Rattle.step_parts.specs.Kinds.{IsKindOf};
+ghost use Rattle.step_parts.specs.Queues.{empty_queue, with_last, without_first};
 
 // The limits of a state.
 pub const MOST_NODES: u8 = 8;
@@ -19,80 +21,93 @@ pub const TOP_ID: u32 = 10008;
 
 pub const HISTORY_LENGTH: u16 = 1024;
 
-// The kinds of steps.
-pub const JOIN: u8 = 1;
+// The kinds of steps, with their numbers.
+#[derive(Clone, Copy, PartialEq, Eq)]
+pub enum Kind {
+    Join = 1,
+    Leave,
+    Learn,
+    SendUpdate,
+    ReceiveUpdate,
+    SendWrite,
+    ReceiveWrite,
+    Connect,
+    Close,
+    HandleUpdate,
+    HandleWrite,
+    Shutdown,
+    Startup,
+}
 
-pub const LEAVE: u8 = 2;
+impl TryFrom<u8> for Kind {
+    type Error = Refusal;
 
-pub const LEARN: u8 = 3;
+    ghost try_from_gives = { IsKindOf };
 
-pub const SEND_UPDATE: u8 = 4;
+    fn try_from(number: u8) -> Result<Kind, Refusal> {
+        match number {
+            1 => Ok(Kind::Join),
+            2 => Ok(Kind::Leave),
+            3 => Ok(Kind::Learn),
+            4 => Ok(Kind::SendUpdate),
+            5 => Ok(Kind::ReceiveUpdate),
+            6 => Ok(Kind::SendWrite),
+            7 => Ok(Kind::ReceiveWrite),
+            8 => Ok(Kind::Connect),
+            9 => Ok(Kind::Close),
+            10 => Ok(Kind::HandleUpdate),
+            11 => Ok(Kind::HandleWrite),
+            12 => Ok(Kind::Shutdown),
+            13 => Ok(Kind::Startup),
+            _ => Err(Refusal::UnknownKind),
+        }
+    }
+}
 
-pub const RECEIVE_UPDATE: u8 = 5;
+// Why a step is refused, or an event list: the numbers are those of the answer codes.
+#[derive(Clone, Copy, PartialEq, Eq)]
+pub enum Refusal {
+    OutOfRange = 1,
+    UnknownKind,
+    WrongNode,
+    NotAllowed,
+    TermLimit,
+    HistoryFull,
+    QueueFull,
+    BadLength,
+    BadMark,
+    BadNodeCount,
+    BadExtent,
+    OutTooShort,
+}
 
-pub const SEND_WRITE: u8 = 6;
-
-pub const RECEIVE_WRITE: u8 = 7;
-
-pub const CONNECT: u8 = 8;
-
-pub const CLOSE: u8 = 9;
-
-pub const HANDLE_UPDATE: u8 = 10;
-
-pub const HANDLE_WRITE: u8 = 11;
-
-pub const SHUTDOWN: u8 = 12;
-
-pub const STARTUP: u8 = 13;
-
-// The answer codes: of a step, and of an event list.
-pub const DONE: u8 = 0;
-
-pub const OUT_OF_RANGE: u8 = 1;
-
-pub const UNKNOWN_KIND: u8 = 2;
-
-pub const WRONG_NODE: u8 = 3;
-
-pub const NOT_ALLOWED: u8 = 4;
-
-pub const TERM_LIMIT: u8 = 5;
-
-pub const HISTORY_FULL: u8 = 6;
-
-pub const QUEUE_FULL: u8 = 7;
-
-pub const BAD_LENGTH: u8 = 8;
-
-pub const BAD_MARK: u8 = 9;
-
-pub const BAD_NODE_COUNT: u8 = 10;
-
-pub const BAD_EXTENT: u8 = 11;
-
-pub const OUT_TOO_SHORT: u8 = 12;
+// The number of an answer: 0 for one that is done.
+pub fn code(answer: Result<(), Refusal>) -> u8
+    ensures { result ≡ code_of answer }
+{
+    match answer {
+        Ok(()) => 0,
+        Err(refusal) => refusal as u8,
+    }
+}
 
 // Whether there is such a node, among `count` of them.
 pub fn is_node(count: u8, node: u8) -> bool
     ensures { result ≡ within 1 count node }
 {
-    if node < 1 {
-        return false;
-    }
-    node <= count
+    1 <= node && node <= count
 }
 
 // A term of the election service.
-#[derive(Clone, Copy)]
+#[derive(Clone, Copy, PartialEq, Eq, PartialOrd, Ord)]
 pub struct Term(pub u16);
 
 // An election id, as the switch compares them.
-#[derive(Clone, Copy)]
+#[derive(Clone, Copy, PartialEq, Eq, PartialOrd, Ord)]
 pub struct ElectionId(pub u32);
 
 // An accepted write.
-#[derive(Clone, Copy)]
+#[derive(Clone, Copy, PartialEq, Eq)]
 pub struct Write {
     pub node: u8,
     pub term: Term,
@@ -122,7 +137,16 @@ pub fn term_of(count: u8, id: ElectionId) -> Term
     Term((id.0 - back) as u16)
 }
 
+// What stands at an unused place.
+pub trait Blank {
+    ghost blank: { Self };
+
+    fn blank() -> Self
+        ensures { result ≡ blank };
+}
+
 // A mastership: what the service holds, what an event says, what a node learned. Master 0 is none.
+// It is a number, since a state that is tested for its range may have any, and `hold_mastership` hands it to the rules.
 #[derive(Clone, Copy)]
 pub struct Mastership {
     pub term: Term,
@@ -131,10 +155,10 @@ pub struct Mastership {
     pub len: u8,
 }
 
-impl Mastership {
-    pub fn blank() -> Self
-        ensures { result ≡ no_mastership }
-    {
+impl Blank for Mastership {
+    ghost blank = { no_mastership };
+
+    fn blank() -> Self {
         Mastership {
             term: Term(0),
             master: 0,
@@ -142,7 +166,9 @@ impl Mastership {
             len: 0,
         }
     }
+}
 
+impl Mastership {
     // The place of the node: 0 for the master, i for the i-th backup, one past the last for any other.
     pub fn place_of(self, node: u8) -> u8
         ensures { result ≡ place_of node (hold_mastership self) }
@@ -150,16 +176,10 @@ impl Mastership {
         if self.master == node {
             return 0;
         }
-        let mut i: u8 = 0;
-        while i < MOST_BACKUPS {
-            let at = i as usize;
-            if self.len <= i {
-                return i + 1;
+        for (i, backup) in self.backups.iter().enumerate() {
+            if self.len as usize <= i || *backup == node {
+                return (i + 1) as u8;
             }
-            if self.backups[at] == node {
-                return i + 1;
-            }
-            i += 1;
         }
         MOST_NODES
     }
@@ -169,22 +189,19 @@ impl Mastership {
         ensures { result ≡ named node (hold_mastership self) }
     {
         let place = self.place_of(node);
-        if MOST_BACKUPS < place {
-            return false;
-        }
-        place <= self.len
+        place <= MOST_BACKUPS && place <= self.len
     }
 }
 
-// What a message on a stream is about. Nothing stands at an unused place.
-#[derive(Clone, Copy)]
+// What a message on a stream is about. Nothing stands at an unused place: memory is fixed, and a queue has eight places.
+#[derive(Clone, Copy, PartialEq, Eq)]
 pub enum Message {
     Nothing,
     Update,
     Write,
 }
 
-#[derive(Clone, Copy)]
+#[derive(Clone, Copy, PartialEq, Eq)]
 pub enum Status {
     Nothing,
     Ok,
@@ -200,10 +217,10 @@ pub struct Request {
     pub term: Term,
 }
 
-impl Request {
-    pub fn blank() -> Self
-        ensures { result ≡ no_request }
-    {
+impl Blank for Request {
+    ghost blank = { no_request };
+
+    fn blank() -> Self {
         Request {
             message: Message::Nothing,
             id: ElectionId(0),
@@ -219,10 +236,10 @@ pub struct Response {
     pub id: ElectionId,
 }
 
-impl Response {
-    pub fn blank() -> Self
-        ensures { result ≡ no_response }
-    {
+impl Blank for Response {
+    ghost blank = { no_response };
+
+    fn blank() -> Self {
         Response {
             message: Message::Nothing,
             status: Status::Nothing,
@@ -231,134 +248,41 @@ impl Response {
     }
 }
 
-// The events that a node has yet to learn.
+// The most that something holds. A trait has it since the check does not look into a constant of a generic type alone.
+pub trait Bounded {
+    ghost CAPACITY: { ℕ };
+
+    const CAPACITY: u8;
+}
+
+// A queue of at most eight, with blanks behind those that wait in it.
 #[derive(Clone, Copy)]
-pub struct EventQueue {
-    pub items: [Mastership; 8],
+pub struct Queue<T> {
+    pub items: [T; 8],
     pub len: u8,
 }
 
-impl EventQueue {
-    pub const CAPACITY: u8 = 8;
-
-    pub fn empty() -> Self
-        ensures { result ≡ pack_events [] }
-    {
-        let blank = Mastership::blank();
-        EventQueue {
-            items: [blank; 8],
-            len: 0,
-        }
-    }
-
-    pub fn full(self) -> bool
-        ensures { result ≡ leb queue_length self.len }
-    {
-        Self::CAPACITY <= self.len
-    }
-
-    // One more at the end; a full queue stays as it is.
-    pub fn push(self, x: Mastership) -> Self
-        ensures { result ≡ push_event self x }
-    {
-        let at = self.len as usize;
-        if Self::CAPACITY <= self.len {
-            return self;
-        }
-        let mut next = self;
-        next.items[at] = x;
-        next.len = self.len + 1;
-        next
-    }
-
-    // The head taken off; an empty queue stays as it is.
-    pub fn pop(self) -> Self
-        ensures { result ≡ pop_event self }
-    {
-        if self.len == 0 {
-            return self;
-        }
-        let at = self.items;
-        let blank = Mastership::blank();
-        EventQueue {
-            items: [at[1], at[2], at[3], at[4], at[5], at[6], at[7], blank],
-            len: self.len - 1,
-        }
-    }
-}
+// The events that a node has yet to learn.
+pub type EventQueue = Queue<Mastership>;
 
 // The requests that the switch has yet to handle.
-#[derive(Clone, Copy)]
-pub struct RequestQueue {
-    pub items: [Request; 8],
-    pub len: u8,
-}
-
-impl RequestQueue {
-    pub const CAPACITY: u8 = 8;
-
-    pub fn empty() -> Self
-        ensures { result ≡ pack_requests [] }
-    {
-        let blank = Request::blank();
-        RequestQueue {
-            items: [blank; 8],
-            len: 0,
-        }
-    }
-
-    pub fn full(self) -> bool
-        ensures { result ≡ leb queue_length self.len }
-    {
-        Self::CAPACITY <= self.len
-    }
-
-    // One more at the end; a full queue stays as it is.
-    pub fn push(self, x: Request) -> Self
-        ensures { result ≡ push_request self x }
-    {
-        let at = self.len as usize;
-        if Self::CAPACITY <= self.len {
-            return self;
-        }
-        let mut next = self;
-        next.items[at] = x;
-        next.len = self.len + 1;
-        next
-    }
-
-    // The head taken off; an empty queue stays as it is.
-    pub fn pop(self) -> Self
-        ensures { result ≡ pop_request self }
-    {
-        if self.len == 0 {
-            return self;
-        }
-        let at = self.items;
-        let blank = Request::blank();
-        RequestQueue {
-            items: [at[1], at[2], at[3], at[4], at[5], at[6], at[7], blank],
-            len: self.len - 1,
-        }
-    }
-}
+pub type RequestQueue = Queue<Request>;
 
 // The responses that a node has yet to receive.
-#[derive(Clone, Copy)]
-pub struct ResponseQueue {
-    pub items: [Response; 8],
-    pub len: u8,
+pub type ResponseQueue = Queue<Response>;
+
+impl<T> Bounded for Queue<T> {
+    ghost CAPACITY = { queue_length };
+
+    const CAPACITY: u8 = 8;
 }
 
-impl ResponseQueue {
-    pub const CAPACITY: u8 = 8;
-
+impl<T: Blank + Copy> Queue<T> {
     pub fn empty() -> Self
-        ensures { result ≡ pack_responses [] }
+        ensures { result ≡ empty_queue T.blank }
     {
-        let blank = Response::blank();
-        ResponseQueue {
-            items: [blank; 8],
+        Queue {
+            items: [T::blank(); 8],
             len: 0,
         }
     }
@@ -370,30 +294,28 @@ impl ResponseQueue {
     }
 
     // One more at the end; a full queue stays as it is.
-    pub fn push(self, x: Response) -> Self
-        ensures { result ≡ push_response self x }
+    pub fn push(self, x: T) -> Self
+        ensures { result ≡ with_last self x }
     {
-        let at = self.len as usize;
-        if Self::CAPACITY <= self.len {
+        if self.full() {
             return self;
         }
         let mut next = self;
-        next.items[at] = x;
-        next.len = self.len + 1;
+        next.items[self.len as usize] = x;
+        next.len += 1;
         next
     }
 
     // The head taken off; an empty queue stays as it is.
     pub fn pop(self) -> Self
-        ensures { result ≡ pop_response self }
+        ensures { result ≡ without_first T.blank self }
     {
         if self.len == 0 {
             return self;
         }
         let at = self.items;
-        let blank = Response::blank();
-        ResponseQueue {
-            items: [at[1], at[2], at[3], at[4], at[5], at[6], at[7], blank],
+        Queue {
+            items: [at[1], at[2], at[3], at[4], at[5], at[6], at[7], T::blank()],
             len: self.len - 1,
         }
     }

@@ -13,35 +13,23 @@ ghost use Rattle.step_range.specs.Tests.{core_test};
 use step_state::{Core, State};
 
 // What one role owns.
+#[tactic(auto, using(std::proofs::lemmas::Bool::Decides::nat_tests), unfolding(crate::specs::Tests::core_test))]
 fn core_fits(count: u8, running: bool, core: Core) -> bool
     requires { count ≤ most_nodes }
     ensures { result ≡ core_test count running core }
 {
-    let service = core.service;
-    let claims = core.claims;
-    if step_parts::TOP_TERM < claims.last.0 {
-        return false;
-    }
-    if step_range_queues::masterships::service_fits(count, service) {
-        if controllers::controllers_fit(count, core) {
-            if streams::streams_fit(count, running, core) {
-                return streams::held_fits(count, claims);
-            }
-        }
-    }
-    false
+    core.claims.last.0 <= step_parts::TOP_TERM
+        && step_range_queues::masterships::service_fits(count, core.service)
+        && controllers::controllers_fit(count, core)
+        && streams::streams_fit(count, running, core)
+        && streams::held_fits(count, core.claims)
 }
 
 // What the state holds is in the rules' range, and unused places and rows above N are blank. N is a number of 1 to 8.
 pub fn in_range(s: State) -> bool
     ensures { result ≡ state_fits s }
 {
-    let core = s.core;
-    let history = s.history;
-    if step_parts::is_node(step_parts::MOST_NODES, s.count) {
-        if core_fits(s.count, s.running, core) {
-            return history::history_fits(s.count, history);
-        }
-    }
-    false
+    step_parts::is_node(step_parts::MOST_NODES, s.count)
+        && core_fits(s.count, s.running, s.core)
+        && history::history_fits(s.count, s.history)
 }

@@ -4,14 +4,11 @@ use Rattle.rules.specs.Limits.{most_backups, top_term, top_id, queue_length}
 use Rattle.rules.specs.State as S
 use Rattle.rules.specs.Ids.{place_of}
 use Rattle.rules.specs.Range.{each, within, request_fits, answer_fits}
-use Rattle.step_parts.specs.Hold.{hold_mastership, hold_message, hold_status, hold_request, no_request, no_response, past_mastership}
+use Rattle.step_parts.specs.Hold.{hold_mastership, hold_message, hold_status, hold_request, no_request, no_response, past_mastership, EventQueue, RequestQueue, ResponseQueue}
 use Rattle.step_parts.specs.declared.Mastership.{Mastership}
 use Rattle.step_parts.specs.declared.Status.{Status}
 use Rattle.step_parts.specs.declared.Request.{Request}
 use Rattle.step_parts.specs.declared.Response.{Response}
-use Rattle.step_parts.specs.declared.EventQueue.{EventQueue}
-use Rattle.step_parts.specs.declared.RequestQueue.{RequestQueue}
-use Rattle.step_parts.specs.declared.ResponseQueue.{ResponseQueue}
 use Rattle.step_state.specs.Tidy.{is_zero, no_message, no_status, tidy_request, blank_request, blank_response}
 
 -- ---- any array

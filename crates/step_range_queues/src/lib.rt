@@ -3,3 +3,4 @@
 
 pub mod masterships;
 pub mod messages;
+pub mod queues;

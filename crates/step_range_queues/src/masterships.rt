@@ -1,19 +1,19 @@
-// Masterships and queues of events.
+// Masterships.
+#![tactic(auto, using(std::proofs::lemmas::Bool::Decides::nat_tests), unfolding(rules::specs::Range::within, crate::specs::Tests::backup_at, crate::specs::Tests::blank_test, crate::specs::Tests::event_test, crate::specs::Tests::service_test))]
+
 ghost use Rattle.std.specs.Prelude.{◌≡◌, cond, ◌<◌};
 ghost use Rattle.rules.specs.Limits.{most_backups, top_term};
 ghost use Rattle.rules.specs.Range.{within};
-ghost use Rattle.step_range_queues.specs.Tests.{backup_at, backups_test, blank_test, event_test, service_test, events_test};
+ghost use Rattle.step_range_queues.specs.Tests.{backup_at, backups_test, blank_test, event_test, service_test};
 
-use step_parts::{EventQueue, Mastership, Term};
+use crate::queues::Fits;
+use step_parts::{Mastership, Term};
 
 // Whether t is a term that the service can have given.
 pub fn is_term(t: Term) -> bool
     ensures { result ≡ within 1 top_term t.0 }
 {
-    if t.0 < 1 {
-        return false;
-    }
-    t.0 <= step_parts::TOP_TERM
+    1 <= t.0 && t.0 <= step_parts::TOP_TERM
 }
 
 // The number b at place i of the backups: behind those in use it is 0.
@@ -25,10 +25,7 @@ fn backup_fits(count: u8, m: Mastership, i: u8, b: u8) -> bool
     if m.len <= i {
         return b == 0;
     }
-    if step_parts::is_node(count, b) {
-        return m.place_of(b) == i + 1;
-    }
-    false
+    step_parts::is_node(count, b) && m.place_of(b) == i + 1
 }
 
 // Among no nodes, only no backups fit.
@@ -38,13 +35,8 @@ fn backups_fit(count: u8, m: Mastership) -> bool
     if step_parts::MOST_BACKUPS < m.len {
         return false;
     }
-    let mut i: u8 = 0;
-    while i < step_parts::MOST_BACKUPS {
-        let at = i as usize;
-        let b = m.backups[at];
-        if backup_fits(count, m, i, b) {
-            i += 1;
-        } else {
+    for (i, b) in m.backups.iter().enumerate() {
+        if !backup_fits(count, m, i as u8, *b) {
             return false;
         }
     }
@@ -55,21 +47,21 @@ fn backups_fit(count: u8, m: Mastership) -> bool
 pub fn mastership_fits(used: bool, count: u8, m: Mastership) -> bool
     ensures { result ≡ cond used (event_test count m) (blank_test m) }
 {
-    let term = m.term;
     if used {
-        if is_term(term) {
-            if step_parts::is_node(count, m.master) {
-                return backups_fit(count, m);
-            }
-        }
-        return false;
+        is_term(m.term) && step_parts::is_node(count, m.master) && backups_fit(count, m)
+    } else {
+        m.term.0 == 0 && m.master == 0 && backups_fit(0, m)
     }
-    if term.0 == 0 {
-        if m.master == 0 {
-            return backups_fit(0, m);
-        }
+}
+
+impl Fits for Mastership {
+    ghost in_use = { event_test };
+
+    ghost behind = { blank_test };
+
+    fn fits(self, used: bool, count: u8) -> bool {
+        mastership_fits(used, count, self)
     }
-    false
 }
 
 // The service's mastership keeps its term where it has no master.
@@ -77,30 +69,7 @@ pub fn service_fits(count: u8, m: Mastership) -> bool
     ensures { result ≡ service_test count m }
 {
     if m.master == 0 {
-        if step_parts::TOP_TERM < m.term.0 {
-            return false;
-        }
-        return backups_fit(0, m);
+        return m.term.0 <= step_parts::TOP_TERM && backups_fit(0, m);
     }
     mastership_fits(true, count, m)
-}
-
-pub fn events_fit(count: u8, q: EventQueue) -> bool
-    ensures { result ≡ events_test count q }
-{
-    let len = q.len;
-    if EventQueue::CAPACITY < len {
-        return false;
-    }
-    let mut i: u8 = 0;
-    while i < EventQueue::CAPACITY {
-        let at = i as usize;
-        let m = q.items[at];
-        if mastership_fits(i < len, count, m) {
-            i += 1;
-        } else {
-            return false;
-        }
-    }
-    true
 }

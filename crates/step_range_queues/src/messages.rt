@@ -1,118 +1,61 @@
-// Requests, responses and their queues.
+// Requests and responses.
+#![tactic(auto, using(std::proofs::lemmas::Bool::Decides::nat_tests), unfolding(rules::specs::Range::within, rules::specs::Range::request_fits, rules::specs::Range::answer_fits, step_state::specs::Tidy::no_message, step_state::specs::Tidy::no_status, step_state::specs::Tidy::tidy_request, step_state::specs::Tidy::blank_request, step_state::specs::Tidy::blank_response, crate::specs::Tests::carries_test, crate::specs::Tests::request_test, crate::specs::Tests::status_test, crate::specs::Tests::response_test))]
+
 ghost use Rattle.std.specs.Prelude.{◌≡◌, cond};
 ghost use Rattle.step_state.specs.Tidy.{blank_request, blank_response};
-ghost use Rattle.step_range_queues.specs.Tests.{carries_test, request_test, requests_test, response_test, responses_test};
+ghost use Rattle.step_range_queues.specs.Tests.{carries_test, request_test, response_test};
 
 use crate::masterships;
-use step_parts::{
-    ElectionId, Message, Request, RequestQueue, Response, ResponseQueue, Status, Term,
-};
+use crate::queues::Fits;
+use step_parts::{ElectionId, Message, Request, Response, Status, Term};
 
 // What a request carries, at a place in use.
 fn carries(used: bool, id: ElectionId, term: Term) -> bool
     ensures { result ≡ carries_test used id.0 term.0 }
 {
-    if used {
-        if id.0 < 1 {
-            return false;
-        }
-        if step_parts::TOP_ID < id.0 {
-            return false;
-        }
-        return masterships::is_term(term);
-    }
-    false
+    used && 1 <= id.0 && id.0 <= step_parts::TOP_ID && masterships::is_term(term)
 }
 
 // A place for a request: in use, it has an id and a term; else it is blank.
 fn request_fits(used: bool, x: Request) -> bool
     ensures { result ≡ cond used (request_test x) (blank_request x) }
 {
-    let message = x.message;
-    let id = x.id;
-    let term = x.term;
-    match message {
-        Message::Nothing => {
-            if used {
-                return false;
-            }
-            if id.0 != 0 {
-                return false;
-            }
-            term.0 == 0
-        }
-        Message::Update => carries(used, id, term),
-        Message::Write => carries(used, id, term),
+    match x.message {
+        Message::Nothing => !used && x.id.0 == 0 && x.term.0 == 0,
+        Message::Update | Message::Write => carries(used, x.id, x.term),
     }
 }
 
-pub fn requests_fit(q: RequestQueue) -> bool
-    ensures { result ≡ requests_test q }
-{
-    let len = q.len;
-    if RequestQueue::CAPACITY < len {
-        return false;
+impl Fits for Request {
+    ghost in_use = { λ count. request_test };
+
+    ghost behind = { blank_request };
+
+    fn fits(self, used: bool, _count: u8) -> bool {
+        request_fits(used, self)
     }
-    let mut i: u8 = 0;
-    while i < RequestQueue::CAPACITY {
-        let at = i as usize;
-        let x = q.items[at];
-        if request_fits(i < len, x) {
-            i += 1;
-        } else {
-            return false;
-        }
-    }
-    true
 }
 
 // A place for a response: in use, its status answers the message, and an update's id is in range; else it is blank.
 fn response_fits(used: bool, x: Response) -> bool
     ensures { result ≡ cond used (response_test x) (blank_response x) }
 {
-    let message = x.message;
-    let status = x.status;
-    match message {
-        Message::Nothing => match status {
-            Status::Nothing => !used & (x.id.0 == 0),
-            Status::Ok => false,
-            Status::AlreadyExists => false,
-            Status::NotFound => false,
-            Status::PermissionDenied => false,
-        },
-        Message::Update => match status {
-            Status::Nothing => false,
-            Status::Ok => used & (x.id.0 <= step_parts::TOP_ID),
-            Status::AlreadyExists => used & (x.id.0 <= step_parts::TOP_ID),
-            Status::NotFound => used & (x.id.0 <= step_parts::TOP_ID),
-            Status::PermissionDenied => false,
-        },
-        Message::Write => match status {
-            Status::Nothing => false,
-            Status::Ok => used & (x.id.0 == 0),
-            Status::AlreadyExists => false,
-            Status::NotFound => false,
-            Status::PermissionDenied => used & (x.id.0 == 0),
-        },
+    match (x.message, x.status) {
+        (Message::Nothing, Status::Nothing) => !used && x.id.0 == 0,
+        (Message::Update, Status::Ok | Status::AlreadyExists | Status::NotFound) => {
+            used && x.id.0 <= step_parts::TOP_ID
+        }
+        (Message::Write, Status::Ok | Status::PermissionDenied) => used && x.id.0 == 0,
+        _ => false,
     }
 }
 
-pub fn responses_fit(q: ResponseQueue) -> bool
-    ensures { result ≡ responses_test q }
-{
-    let len = q.len;
-    if ResponseQueue::CAPACITY < len {
-        return false;
+impl Fits for Response {
+    ghost in_use = { λ count. response_test };
+
+    ghost behind = { blank_response };
+
+    fn fits(self, used: bool, _count: u8) -> bool {
+        response_fits(used, self)
     }
-    let mut i: u8 = 0;
-    while i < ResponseQueue::CAPACITY {
-        let at = i as usize;
-        let x = q.items[at];
-        if response_fits(i < len, x) {
-            i += 1;
-        } else {
-            return false;
-        }
-    }
-    true
 }

@@ -5,7 +5,7 @@ use Rattle.rules.specs.Queues.{first, rest, has, remove}
 use Rattle.rules.specs.Ids.{named}
 use Rattle.rules.specs.State as S
 use Rattle.step_parts.specs.Hold.{hold_mastership}
-use Rattle.step_parts.specs.Queues.{push_event}
+use Rattle.step_parts.specs.Queues.{with_last}
 use Rattle.step_parts.specs.Ordered.{OrderedMastership}
 use Rattle.step_parts.specs.declared.Mastership.{Mastership}
 use Rattle.step_state.specs.declared.Controller.{Controller}
@@ -36,7 +36,7 @@ pub record Leaves (m : Mastership) (n : ℕ) : Type 0 where
 
 -- A node that hears of a mastership.
 abbrev pub hears : Mastership → Controller → Controller
-hears m r = record { events = push_event r.events m; learned = r.learned; says = r.says }
+hears m r = record { events = with_last r.events m; learned = r.learned; says = r.says }
 
 -- The place of the i-th that is kept, where the one at `gone` is not.
 abbrev pub skipping : ℕ → ℕ → ℕ

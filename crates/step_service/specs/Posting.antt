@@ -16,11 +16,10 @@ use Rattle.any_list.specs.Columns.{length-column, column-at}
 use Rattle.any_list.specs.Tables.{table-length, table-get, table_of}
 use Rattle.any_list.specs.Rows.{map_first, map_first-length, map_first-in, map_first-out}
 use Rattle.any_list.specs.Queue.{room-held}
-use Rattle.step_parts.specs.Hold.{hold_mastership, pack_mastership, no_mastership, events_queue, hold_events, pack_events}
-use Rattle.step_parts.specs.Queues.{push_event}
+use Rattle.step_parts.specs.Hold.{hold_mastership, pack_mastership, no_mastership, places, hold_events, pack_events, EventQueue}
+use Rattle.step_parts.specs.Queues.{with_last}
 use Rattle.step_parts.specs.Ordered.{OrderedMastership, OrderedEvents, push-events}
 use Rattle.step_parts.specs.declared.Mastership.{Mastership}
-use Rattle.step_parts.specs.declared.EventQueue.{EventQueue}
 use Rattle.step_state.specs.Hold.{events_at, learned_at, says_at, pack_controller, controller_row, pack_controllers}
 use Rattle.step_state.specs.Order.{OrderedControllers, past_controller}
 use Rattle.step_state.specs.Stores.{store_events}
@@ -58,7 +57,7 @@ rooms-not qs i h e = go (room_all qs) refl
 
 -- a node has room exactly where its queue is not full
 pub room_of : (q : EventQueue) → OrderedEvents q → room (hold_events q) ≡ not (leb queue_length q.len)
-room_of q o = room-held no_mastership pack_mastership hold_mastership (events_queue q) o
+room_of q o = room-held no_mastership pack_mastership hold_mastership (places q) o
 
 -- ---- the rows after the post
 
@@ -99,8 +98,8 @@ module _ (count : ℕ) (controllers : List Controller) (o : OrderedControllers c
         let e : get_or (column events_at count controllers) i [] ≡ hold_events q = column-at events_at count i controllers past_controller h in
         let n = events-length in
         let full : leb queue_length q.len ≡ false = not-true (leb queue_length q.len) (sym (room_of q oq) ∙ ap room (sym e) ∙ rooms-at (column events_at count controllers) i (omega arith) r) in
-        let pushed : push_event q m ≡ pack_events (get_or after_post i []) =
-        ap (push_event q) (sym k.same) ∙ push-events q (hold_mastership m) oq full
+        let pushed : with_last q m ≡ pack_events (get_or after_post i []) =
+        ap (with_last q) (sym k.same) ∙ push-events q (hold_mastership m) oq full
         ∙ ap pack_events (ap (push (hold_mastership m)) (sym e) ∙ sym (at_map (push (hold_mastership m)) (column events_at count controllers) i [] [] (omega arith))) in
         let same = row i (omega arith) in
         λ j. record { events = pushed j; learned = (same j).learned; says = (same j).says }

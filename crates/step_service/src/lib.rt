@@ -1,4 +1,4 @@
-// The election service: kinds 1 and 2. Each has an answer code, which only reads, and its effects: the service's mastership and the post.
+// The election service: kinds 1 and 2. Each has a check, which only reads, and its effects: the service's mastership and the post.
 #![tactic(auto)]
 
 ghost use Rattle.std.specs.Prelude.{◌≡◌, true, cond, map, ◌+◌, ◌≤◌};
@@ -8,6 +8,7 @@ ghost use Rattle.rules.specs.Queues.{push, room_all};
 ghost use Rattle.rules.specs.Part.{decide};
 ghost use Rattle.rules.specs.Rules.{join_rule, leave_rule, joined, left, hands_over};
 ghost use Rattle.any_list.specs.Arrays.{column};
+ghost use Rattle.step_parts.specs.Answers.{code_of};
 ghost use Rattle.step_parts.specs.Hold.{hold_mastership, pack_mastership};
 ghost use Rattle.step_parts.specs.Ordered.{OrderedMastership};
 ghost use Rattle.step_state.specs.Hold.{events_at, hold_desk};
@@ -16,78 +17,67 @@ ghost use Rattle.step_state.specs.Reads.{answer_of};
 ghost use Rattle.step_state.specs.Stores.{store_events};
 ghost use Rattle.step_service.specs.Asks.{Joins, Leaves, Leaving, Promotes, hears, skipping, without_backup, handed_over};
 
-use step_parts::{Mastership, Term};
+use step_parts::{Mastership, Refusal, Term};
 use step_state::Controller;
 
 // Whether every node has room for one event more.
-pub fn post_room(count: u8, controllers: [Controller; 8]) -> bool
-    requires { OrderedControllers count controllers }
-    ensures { result ≡ room_all (column events_at count controllers) }
+pub fn post_room(count: u8, controllers: &[Controller; 8]) -> bool
+    requires { OrderedControllers count controllers.now }
+    ensures { result ≡ room_all (column events_at count controllers.now) }
 {
-    let n = count as usize;
-    let mut i: usize = 0;
-    while i < n {
-        let controller = controllers[i];
-        let events = controller.events;
-        if events.full() {
-            return false;
-        }
-        i += 1;
-    }
-    true
+    controllers[..count as usize]
+        .iter()
+        .all(|controller| !controller.events.full())
 }
 
 // The mastership goes last in the node's event queue.
 pub fn hear(controller: Controller, m: Mastership) -> Controller
     ensures { result ≡ hears m controller }
 {
-    let events = controller.events;
-    let mut next = controller;
-    next.events = events.push(m);
-    next
+    Controller {
+        events: controller.events.push(m),
+        ..controller
+    }
 }
 
 // The mastership goes last in every event queue.
-pub fn post(count: u8, controllers: [Controller; 8], m: Mastership) -> [Controller; 8]
-    requires { OrderedControllers count controllers × OrderedMastership m × (room_all (column events_at count controllers) ≡ true) }
-    ensures { result ≡ store_events (map (push (hold_mastership m)) (column events_at count controllers)) count controllers }
+pub fn post(count: u8, controllers: &mut [Controller; 8], m: Mastership)
+    requires { OrderedControllers count controllers.old × OrderedMastership m × (room_all (column events_at count controllers.old) ≡ true) }
+    ensures { controllers.new ≡ store_events (map (push (hold_mastership m)) (column events_at count controllers.old)) count controllers.old }
 {
-    let n = count as usize;
-    let mut next = controllers;
-    let mut i: usize = 0;
-    while i < n {
-        let controller = next[i];
-        next[i] = hear(controller, m);
-        i += 1;
+    for controller in &mut controllers[..count as usize] {
+        *controller = hear(*controller, m);
     }
-    next
 }
 
-fn post_code(count: u8, controllers: [Controller; 8]) -> u8
-    requires { OrderedControllers count controllers }
-    ensures { result ≡ cond (room_all (column events_at count controllers)) step_done queue_full }
+fn check_post(count: u8, controllers: &[Controller; 8]) -> Result<(), Refusal>
+    requires { OrderedControllers count controllers.now }
+    ensures { code_of result ≡ cond (room_all (column events_at count controllers.now)) step_done queue_full }
 {
-    if post_room(count, controllers) {
-        return step_parts::DONE;
+    if !post_room(count, controllers) {
+        return Err(Refusal::QueueFull);
     }
-    step_parts::QUEUE_FULL
+    Ok(())
 }
 
-// 1 Join: the answer.
-pub fn join_code(count: u8, node: u8, service: Mastership, controllers: [Controller; 8]) -> u8
-    requires { OrderedControllers count controllers }
-    ensures { result ≡ answer_of (decide (join_rule node) (hold_desk count service controllers)) }
+// 1 Join: whether it may be done, or why not.
+pub fn check_join(
+    count: u8,
+    node: u8,
+    service: Mastership,
+    controllers: &[Controller; 8],
+) -> Result<(), Refusal>
+    requires { OrderedControllers count controllers.now }
+    ensures { code_of result ≡ answer_of (decide (join_rule node) (hold_desk count service controllers.now)) }
 {
     if service.master == 0 {
         if step_parts::TOP_TERM <= service.term.0 {
-            return step_parts::TERM_LIMIT;
+            return Err(Refusal::TermLimit);
         }
-        return post_code(count, controllers);
+    } else if service.names(node) {
+        return Err(Refusal::NotAllowed);
     }
-    if service.names(node) {
-        return step_parts::NOT_ALLOWED;
-    }
-    post_code(count, controllers)
+    check_post(count, controllers)
 }
 
 // The mastership after the node joined it.
@@ -120,55 +110,41 @@ pub fn hands_over(service: Mastership, node: u8) -> bool
     false
 }
 
-// 2 Leave: the answer.
-pub fn leave_code(count: u8, node: u8, service: Mastership, controllers: [Controller; 8]) -> u8
-    requires { OrderedControllers count controllers }
-    ensures { result ≡ answer_of (decide (leave_rule node) (hold_desk count service controllers)) }
+// 2 Leave: whether it may be done, or why not.
+pub fn check_leave(
+    count: u8,
+    node: u8,
+    service: Mastership,
+    controllers: &[Controller; 8],
+) -> Result<(), Refusal>
+    requires { OrderedControllers count controllers.now }
+    ensures { code_of result ≡ answer_of (decide (leave_rule node) (hold_desk count service controllers.now)) }
 {
-    if service.names(node) {
-        if hands_over(service, node) {
-            if step_parts::TOP_TERM <= service.term.0 {
-                return step_parts::TERM_LIMIT;
-            }
-            return post_code(count, controllers);
-        }
-        return step_parts::DONE;
+    if !service.names(node) {
+        return Err(Refusal::NotAllowed);
     }
-    step_parts::NOT_ALLOWED
+    if !hands_over(service, node) {
+        return Ok(());
+    }
+    if step_parts::TOP_TERM <= service.term.0 {
+        return Err(Refusal::TermLimit);
+    }
+    check_post(count, controllers)
 }
 
-// The place that stands at `i` once the one at `gone` is left out.
-fn skip(i: usize, gone: usize) -> usize
-    requires { i ≤ most_nodes }
-    ensures { result ≡ skipping i gone }
-{
-    if i < gone {
-        return i;
-    }
-    i + 1
-}
-
-// The mastership without a backup.
+// The mastership without a backup: those behind it move up, and a 0 stands at the last place.
 fn without(m: Mastership, node: u8) -> Mastership
     requires { Leaves m node }
     ensures { result ≡ pack_mastership (without_backup node (hold_mastership m)) }
 {
-    let place = m.place_of(node);
-    let gone = place as usize - 1;
-    let kept = m.len as usize - 1;
-    let mut backups = [0u8; step_parts::MOST_BACKUPS as usize];
-    let mut i: usize = 0;
-    while i < kept {
-        let from = skip(i, gone);
-        backups[i] = m.backups[from];
-        i += 1;
-    }
-    let term = m.term;
+    let gone = m.place_of(node) as usize - 1;
+    let mut backups = m.backups;
+    backups.copy_within(gone + 1.., gone);
+    backups[step_parts::MOST_BACKUPS as usize - 1] = 0;
     Mastership {
-        term: term,
-        master: m.master,
-        backups: backups,
+        backups,
         len: m.len - 1,
+        ..m
     }
 }
 
@@ -193,9 +169,10 @@ pub fn left(service: Mastership, node: u8) -> Mastership
 {
     if service.master == node {
         if service.len == 0 {
-            let mut next = service;
-            next.master = 0;
-            return next;
+            return Mastership {
+                master: 0,
+                ..service
+            };
         }
         return promoted(service);
     }

@@ -1,9 +1,10 @@
 -- What each class of steps writes, stored into the structs that it concerns.
-use Rattle.std.specs.Prelude.{Bool, true, false, List, [], ℕ}
+use Rattle.std.specs.Prelude.{Bool, true, false, List, [], ◌∷◌, ℕ, Option, Some, None}
 use Rattle.rules.specs.State as S
 use Rattle.rules.specs.Parts.{Inbox, Sent, Received, Telling, Serving, tell_part}
 use Rattle.any_list.specs.Arrays.{column}
-use Rattle.step_parts.specs.Hold.{pack_mastership, pack_events, pack_requests, pack_responses}
+use Rattle.step_parts.specs.Hold.{pack_mastership, pack_events, pack_requests, pack_responses, hold_write, pack_write}
+use Rattle.step_parts.specs.declared.Write.{Write}
 use Rattle.step_state.specs.Hold.{learned_at, says_at, hold_board, pack_stream, pack_controllers, pack_streams, pack_claims}
 use Rattle.step_state.specs.declared.Controller.{Controller}
 use Rattle.step_state.specs.declared.Stream.{Stream}
@@ -59,3 +60,12 @@ store_telling n w count streams claims = pack_board ((tell_part n).put w (record
 -- 11
 abbrev pub store_serving : Serving → Stream → Stream
 store_serving w s = record { opened = s.opened; sent = s.sent; requests = pack_requests w.requests; responses = pack_responses w.responses }
+
+-- The write that joins the history, if there is one: as the rules append it, and as the code hands it on.
+abbrev pub hold_accepted : Option Write → List S.Write
+hold_accepted None = []
+hold_accepted (Some e) = hold_write e ∷ []
+
+abbrev pub pack_accepted : List S.Write → Option Write
+pack_accepted [] = None
+pack_accepted (e ∷ l) = Some (pack_write e)

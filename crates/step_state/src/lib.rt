@@ -10,7 +10,9 @@ ghost use Rattle.any_list.specs.Arrays.{column};
 ghost use Rattle.step_state.specs.Hold.{id_at, pack_elected, pack_core};
 ghost use Rattle.step_state.specs.Stores.{pack_board, closed_stream, bare};
 
-use step_parts::{ElectionId, EventQueue, Mastership, RequestQueue, ResponseQueue, Term, Write};
+use step_parts::{
+    Blank, ElectionId, EventQueue, Mastership, RequestQueue, ResponseQueue, Term, Write,
+};
 
 // A controller node. `says` is the flag "device says master".
 #[derive(Clone, Copy)]
@@ -20,7 +22,8 @@ pub struct Controller {
     pub says: bool,
 }
 
-// A stream between a node and the switch; `sent` is the term last sent on it.
+// A stream between a node and the switch; `sent` is the term last sent on it. That its queues are in order is no part of the type, nor of a controller's: the
+// test of the range is given states in which they are not (`row-above-n`).
 #[derive(Clone, Copy)]
 pub struct Stream {
     pub opened: bool,
@@ -29,14 +32,14 @@ pub struct Stream {
     pub responses: ResponseQueue,
 }
 
-// Whom ids elect: the switch's master, 0 for none, and the largest id.
-#[derive(Clone, Copy)]
+// Whom ids elect: the switch's master, 0 for none, and the largest id. The number may be any in a state that is tested for its range.
+#[derive(Clone, Copy, PartialEq, Eq)]
 pub struct Elected {
     pub master: u8,
     pub largest: ElectionId,
 }
 
-// What the switch holds: an election id and a term for each node, whom the ids elect, and the last accepted term.
+// What the switch holds: an election id and a term for each node, whom the ids elect, and the last accepted term. The rules read ids and terms as columns.
 #[derive(Clone, Copy)]
 pub struct Claims {
     pub ids: [ElectionId; 8],
@@ -83,41 +86,16 @@ pub struct Body {
     pub core: Core,
 }
 
-// The same as one struct, as a run holds it: every step stores into it where it stands.
-#[derive(Clone, Copy)]
-pub struct Table {
-    pub count: u8,
-    pub running: bool,
-    pub service: Mastership,
-    pub controllers: [Controller; 8],
-    pub streams: [Stream; 8],
-    pub claims: Claims,
-}
-
-// What a step leaves: its answer, the state, and the accepted write's term, where there is one.
-#[derive(Clone, Copy)]
-pub struct Moved {
-    pub code: u8,
-    pub body: Body,
-    pub accepted: bool,
-    pub term: Term,
-}
-
-// How many nodes stand before the first that holds the id; all of them where none does.
+// How many nodes stand before the first that holds the id; all of them where none does. At most eight nodes is asked for here and by others, and is no type: a
+// state's count may be any byte until its range is tested.
 pub fn id_place(count: u8, id: ElectionId, ids: [ElectionId; 8]) -> u8
     requires { count ≤ most_nodes }
     ensures { result ≡ before id.0 (column id_at count ids) }
 {
-    let mut i: u8 = 0;
-    while i < count {
-        let at = i as usize;
-        let held = ids[at];
-        if held.0 == id.0 {
-            return i;
-        }
-        i += 1;
+    match ids[..count as usize].iter().position(|held| id == *held) {
+        Some(place) => place as u8,
+        None => count,
     }
-    count
 }
 
 // The election: one pass over the ids.
@@ -126,34 +104,25 @@ pub fn elect(count: u8, ids: [ElectionId; 8]) -> Elected
     ensures { result ≡ pack_elected (elected (column id_at count ids)) }
 {
     let mut master: u8 = 0;
-    let mut largest: u32 = 0;
-    let mut i: u8 = 0;
-    while i < count {
-        let at = i as usize;
-        let id = ids[at];
-        i += 1;
-        if largest < id.0 {
-            largest = id.0;
-            master = i;
+    let mut largest = ElectionId(0);
+    for (i, id) in ids[..count as usize].iter().enumerate() {
+        if largest < *id {
+            largest = *id;
+            master = (i + 1) as u8;
         }
     }
-    Elected {
-        master: master,
-        largest: ElectionId(largest),
-    }
+    Elected { master, largest }
 }
 
 // A closed stream.
 pub fn closed_stream() -> Stream
     ensures { result ≡ closed_stream }
 {
-    let requests = RequestQueue::empty();
-    let responses = ResponseQueue::empty();
     Stream {
         opened: false,
         sent: Term(0),
-        requests: requests,
-        responses: responses,
+        requests: RequestQueue::empty(),
+        responses: ResponseQueue::empty(),
     }
 }
 
@@ -161,7 +130,6 @@ pub fn closed_stream() -> Stream
 pub fn blank_board(last: Term) -> Board
     ensures { result ≡ pack_board (bare last.0) }
 {
-    let stream = closed_stream();
     let nobody = Elected {
         master: 0,
         largest: ElectionId(0),
@@ -170,11 +138,11 @@ pub fn blank_board(last: Term) -> Board
         ids: [ElectionId(0); 8],
         terms: [Term(0); 8],
         elected: nobody,
-        last: last,
+        last,
     };
     Board {
-        streams: [stream; 8],
-        claims: claims,
+        streams: [closed_stream(); 8],
+        claims,
     }
 }
 
@@ -188,13 +156,11 @@ pub fn blank_core() -> Core
         learned: blank,
         says: false,
     };
-    let board = blank_board(Term(0));
-    let streams = board.streams;
-    let claims = board.claims;
+    let Board { streams, claims } = blank_board(Term(0));
     Core {
         service: blank,
         controllers: [controller; 8],
-        streams: streams,
-        claims: claims,
+        streams,
+        claims,
     }
 }

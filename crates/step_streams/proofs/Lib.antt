@@ -1,3 +1,4 @@
 pub mod Passing
 pub mod Answers
 pub mod Waiting
+pub mod Bits

@@ -13,7 +13,7 @@ use Rattle.rules.specs.Queues.{first, empty}
 use Rattle.rules.specs.Rules.{is_update, is_write, no_request}
 use Rattle.any_list.specs.Queue.{empty-held}
 use Rattle.step_parts.specs.Hold as P
-use Rattle.step_parts.specs.Hold.{hold_request, hold_requests, pack_request, pack_message, requests_queue}
+use Rattle.step_parts.specs.Hold.{hold_request, hold_requests, pack_request, pack_message, places}
 use Rattle.step_parts.specs.declared.Message.{Message}
 use Rattle.step_parts.specs.declared.Message.TheVariants as M
 use Rattle.step_parts.specs.contracts.Message.{the_type}
@@ -43,10 +43,10 @@ module _ (running : Bool) (s : Stream) (kind : Bool) (e : (able running s && kin
 
 -- a request stands at the head of a queue that is not empty
 pub some-waits : (s : Stream) → OrderedStream s → s.requests.len ≢ 0 → HasHead s
-some-waits s o z = record { ordered = o; some = empty-held P.no_request pack_request hold_request (requests_queue s.requests) o.requests ∙ ne_eqb s.requests.len 0 z }
+some-waits s o z = record { ordered = o; some = empty-held P.no_request pack_request hold_request (places s.requests) o.requests ∙ ne_eqb s.requests.len 0 z }
 
 pub none-waits : (s : Stream) → OrderedStream s → s.requests.len ≡ 0 → empty (hold_requests s.requests) ≡ true
-none-waits s o e = empty-held P.no_request pack_request hold_request (requests_queue s.requests) o.requests ∙ eq-eqb s.requests.len 0 e
+none-waits s o e = empty-held P.no_request pack_request hold_request (places s.requests) o.requests ∙ eq-eqb s.requests.len 0 e
 
 -- ---- an arm of a match on a message
 

@@ -4,8 +4,9 @@ use Rattle.rules.specs.Queues.{first, empty}
 use Rattle.rules.specs.State as S
 use Rattle.rules.specs.Election.{status_for}
 use Rattle.rules.specs.Rules.{no_request}
+use Rattle.step_parts.specs.Hold as P
 use Rattle.step_parts.specs.Hold.{hold_requests, pack_message, pack_response}
-use Rattle.step_parts.specs.Queues.{pop_request, push_response}
+use Rattle.step_parts.specs.Queues.{without_first, with_last}
 use Rattle.step_parts.specs.declared.Message.{Message}
 use Rattle.step_parts.specs.declared.Message.TheVariants as M
 use Rattle.step_parts.specs.declared.Response.{Response}
@@ -19,11 +20,11 @@ news_of e n = record { message = S.update; status = status_for e.master n; id = 
 
 -- The response goes last.
 abbrev pub responded : Response → Stream → Stream
-responded r s = record { opened = s.opened; sent = s.sent; requests = s.requests; responses = push_response s.responses r }
+responded r s = record { opened = s.opened; sent = s.sent; requests = s.requests; responses = with_last s.responses r }
 
 -- The head request is taken off.
 abbrev pub without_head : Stream → Stream
-without_head s = record { opened = s.opened; sent = s.sent; requests = pop_request s.requests; responses = s.responses }
+without_head s = record { opened = s.opened; sent = s.sent; requests = without_first P.no_request s.requests; responses = s.responses }
 
 -- The row at place i after all open streams are told.
 abbrev pub tell_row : List Bool → (ℕ → S.Response) → List Stream → ℕ → Stream

@@ -29,23 +29,21 @@ pub fn elected_with(
     requires { IsNode count node × (now ≡ pack_elected (elected (column id_at count ids))) }
     ensures { result ≡ pack_elected (holding node id.0 (elected (column id_at count ids))) }
 {
-    let largest = now.largest;
-    if largest.0 < id.0 {
+    if now.largest.0 < id.0 {
         return Elected {
             master: node,
             largest: id,
         };
     }
     if now.master == node {
-        if id.0 == largest.0 {
+        if id == now.largest {
             return now;
         }
-    } else if id.0 < largest.0 {
+    } else if id.0 < now.largest.0 {
         return now;
     }
-    let at = (node - 1) as usize;
     let mut next = ids;
-    next[at] = id;
+    next[(node - 1) as usize] = id;
     step_state::elect(count, next)
 }
 
@@ -54,9 +52,8 @@ pub fn is_taken(count: u8, node: u8, id: ElectionId, ids: [ElectionId; 8]) -> bo
     requires { IsNode count node }
     ensures { result ≡ taken node id.0 (column id_at count ids) }
 {
-    let at = (node - 1) as usize;
     let mut others = ids;
-    others[at] = ElectionId(0);
+    others[(node - 1) as usize] = ElectionId(0);
     step_state::id_place(count, id, others) < count
 }
 
@@ -65,15 +62,13 @@ pub fn open_word(count: u8, streams: [Stream; 8]) -> u32
     requires { count ≤ most_nodes }
     ensures { result ≡ word_of (column open_at count streams) }
 {
-    let mut i = count as usize;
-    let mut word: u32 = 0;
-    while 0 < i {
-        i -= 1;
-        let stream = streams[i];
-        word = 2 * word;
+    let mut word = 0;
+    let mut bit = 1;
+    for stream in &streams[..count as usize] {
         if stream.opened {
-            word += 1;
+            word += bit;
         }
+        bit *= 2;
     }
     word
 }
@@ -103,12 +98,10 @@ fn status_for(master: u8, node: u8) -> Status
 fn news_for(node: u8, elected: Elected) -> Response
     ensures { result ≡ pack_response (news_of elected node) }
 {
-    let status = status_for(elected.master, node);
-    let largest = elected.largest;
     Response {
         message: Message::Update,
-        status: status,
-        id: largest,
+        status: status_for(elected.master, node),
+        id: elected.largest,
     }
 }
 
@@ -116,40 +109,30 @@ fn news_for(node: u8, elected: Elected) -> Response
 pub fn respond(stream: Stream, response: Response) -> Stream
     ensures { result ≡ responded response stream }
 {
-    let responses = stream.responses;
-    let mut next = stream;
-    next.responses = responses.push(response);
-    next
+    Stream {
+        responses: stream.responses.push(response),
+        ..stream
+    }
 }
 
 // The node alone is told.
 pub fn tell_one(node: u8, elected: Elected, stream: Stream) -> Stream
     ensures { result ≡ responded (pack_response (news_of elected node)) stream }
 {
-    let response = news_for(node, elected);
-    respond(stream, response)
+    respond(stream, news_for(node, elected))
 }
 
 // Whether every open stream has room to be told.
-pub fn tell_room(count: u8, streams: [Stream; 8]) -> bool
-    requires { OrderedRows count streams }
-    ensures { result ≡ room_open (column open_at count streams) (column responses_at count streams) }
+pub fn tell_room(count: u8, streams: &[Stream; 8]) -> bool
+    requires { OrderedRows count streams.now }
+    ensures { result ≡ room_open (column open_at count streams.now) (column responses_at count streams.now) }
 {
-    let n = count as usize;
-    let mut i: usize = 0;
-    while i < n {
-        let stream = streams[i];
-        if stream.opened {
-            if stream.responses.full() {
-                return false;
-            }
-        }
-        i += 1;
-    }
-    true
+    streams[..count as usize]
+        .iter()
+        .all(|stream| !stream.opened || !stream.responses.full())
 }
 
-// Every open stream is told, from the lowest node on.
+// Every open stream is told, from the lowest node on. A rule of the project: the open ones are walked by the bits of their word.
 pub fn tell_all(count: u8, elected: Elected, streams: [Stream; 8]) -> [Stream; 8]
     requires { count ≤ most_nodes }
     ensures { result ≡ table most_nodes (tell_row (column open_at count streams) (news_of elected) streams) }
@@ -171,18 +154,17 @@ pub fn head(stream: Stream) -> Request
     requires { HasHead stream }
     ensures { result ≡ pack_request (first no_request (hold_requests stream.requests)) }
 {
-    let requests = stream.requests;
-    requests.items[0]
+    stream.requests.items[0]
 }
 
 // The request at the head is taken off.
 pub fn without_head(stream: Stream) -> Stream
     ensures { result ≡ without_head stream }
 {
-    let requests = stream.requests;
-    let mut next = stream;
-    next.requests = requests.pop();
-    next
+    Stream {
+        requests: stream.requests.pop(),
+        ..stream
+    }
 }
 
 // What the head request of the stream is about; nothing where the switch would not handle it.
@@ -190,15 +172,8 @@ pub fn waits(running: bool, stream: Stream) -> Message
     requires { OrderedStream stream }
     ensures { result ≡ waiting running stream }
 {
-    if running {
-        if stream.opened {
-            let requests = stream.requests;
-            if requests.len != 0 {
-                let request = head(stream);
-                let message = request.message;
-                return message;
-            }
-        }
+    if running && stream.opened && stream.requests.len != 0 {
+        return head(stream).message;
     }
     Message::Nothing
 }

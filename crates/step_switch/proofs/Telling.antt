@@ -17,7 +17,7 @@ use Rattle.any_list.specs.Arrays.{table}
 use Rattle.any_list.specs.Tables.{table_of, table-get, table-length}
 use Rattle.step_parts.specs.Hold.{hold_response, pack_response, no_response, pack_responses}
 use Rattle.step_parts.specs.Ordered.{ordered-responses, push-responses, response-back}
-use Rattle.step_parts.specs.Queues.{push_response}
+use Rattle.step_parts.specs.Queues.{with_last}
 use Rattle.step_state.specs.Hold.{pack_stream, pack_streams, stream_row}
 use Rattle.step_state.specs.Order.{past_stream}
 use Rattle.step_state.specs.declared.Stream.{Stream}
@@ -25,7 +25,7 @@ use Rattle.step_streams.specs.Does.{responded, tell_row}
 use Rattle.step_switch.proofs.Storing.{row_at}
 
 -- a response goes last in a queue that has room
-pub push-packed : (x : S.Response) (q : List S.Response) → room q ≡ true → push_response (pack_responses q) (pack_response x) ≡ pack_responses (push x q)
+pub push-packed : (x : S.Response) (q : List S.Response) → room q ≡ true → with_last (pack_responses q) (pack_response x) ≡ pack_responses (push x q)
 unfolding room
 push-packed x q e =
     let h : length q < 8 = ltb→lt (length q) 8 (rw e tt) in

@@ -20,10 +20,9 @@ use Rattle.rules.specs.Rules.{no_request, is_update, changes, asked, held_left, 
 use Rattle.any_list.specs.Arrays.{column, table}
 use Rattle.any_list.specs.Columns.{column-at, column-set}
 use Rattle.any_list.specs.Queue.{room-held}
-use Rattle.step_parts.specs.Hold.{hold_requests, hold_responses, pack_request, pack_requests, pack_response, hold_response, no_response, responses_queue}
+use Rattle.step_parts.specs.Hold.{hold_requests, hold_responses, pack_request, pack_requests, pack_response, hold_response, no_response, places}
 use Rattle.step_parts.specs.Ordered.{pop-requests}
 use Rattle.step_parts.specs.declared.Message.TheVariants as M
-use Rattle.step_parts.specs.declared.Response.{Response}
 use Rattle.step_state.specs.Hold.{hold_held, hold_board, pack_stream, pack_streams, pack_claims, stream_row, open_at, requests_at, responses_at, id_at}
 use Rattle.step_state.specs.Order.{past_stream}
 use Rattle.step_state.specs.Reads.{answer_of, told_of}
@@ -163,7 +162,7 @@ module _ {count n : ℕ} {streams : List Stream} {claims : Claims} (u : UpdateAt
   room-one e = simp (change-is false e) (ap room (responses-at h))
 
   pub space : room (hold_responses r.responses) ≡ not (leb queue_length r.responses.len)
-  space = room-held no_response pack_response hold_response (responses_queue r.responses) has-head.ordered.responses
+  space = room-held no_response pack_response hold_response (places r.responses) has-head.ordered.responses
 
   -- ---- the effect
 

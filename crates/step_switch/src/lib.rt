@@ -1,17 +1,18 @@
 // The switch's steps that concern all streams: kinds 9 and 10.
-// A step is two functions: one gives its answer code and only reads, the other does what is to be done where the code is 0.
+// A step is two functions: one only reads and says whether it may be done, the other does it.
 #![tactic(auto)]
 
 ghost use Rattle.std.specs.Prelude.{◌≡◌, true};
 ghost use Rattle.rules.specs.Part.{decide};
 ghost use Rattle.rules.specs.Rules as R;
 ghost use Rattle.rules.specs.Rules.{close_rule, close_room, handle_update_rule, update_room};
+ghost use Rattle.step_parts.specs.Answers.{code_of};
 ghost use Rattle.step_state.specs.Reads.{answer_of, told_of};
 ghost use Rattle.step_state.specs.Stores.{store_telling};
 ghost use Rattle.step_switch.specs.Asks.{AtClaims, AtBoard, Tells, UpdateAt, CanUpdate};
 ghost use Rattle.step_switch.specs.Does.{with_claim, cleared_at, collides};
 
-use step_parts::{ElectionId, Message, Term};
+use step_parts::{ElectionId, Message, Refusal, Term};
 use step_state::{Board, Claims, Stream};
 
 // The switch holds this id and this term for the node, and elects anew: the one way to change an id.
@@ -45,33 +46,38 @@ fn cleared_at(count: u8, node: u8, streams: [Stream; 8], claims: Claims) -> Boar
 }
 
 // Whether all streams that closing the node's would tell have room. They are told where it is the master's.
-fn close_room(count: u8, node: u8, streams: [Stream; 8], claims: Claims) -> bool
-    requires { AtBoard count node streams claims }
-    ensures { result ≡ close_room node (told_of count node true streams claims) }
+fn close_room(count: u8, node: u8, streams: &[Stream; 8], claims: &Claims) -> bool
+    requires { AtBoard count node streams.now claims.now }
+    ensures { result ≡ close_room node (told_of count node true streams.now claims.now) }
 {
     if claims.elected.master == node {
         let at = (node - 1) as usize;
-        let mut others = streams;
+        let mut others = *streams;
         others[at] = step_state::closed_stream();
-        return step_streams::tell_room(count, others);
+        return step_streams::tell_room(count, &others);
     }
     true
 }
 
-// 9 Close: its answer.
-pub fn close_code(count: u8, node: u8, streams: [Stream; 8], claims: Claims) -> u8
-    requires { AtBoard count node streams claims }
-    ensures { result ≡ answer_of (decide (close_rule node) (told_of count node true streams claims)) }
+// 9 Close: whether it may be done, or why not.
+pub fn check_close(
+    count: u8,
+    node: u8,
+    streams: &[Stream; 8],
+    claims: &Claims,
+) -> Result<(), Refusal>
+    requires { AtBoard count node streams.now claims.now }
+    ensures { code_of result ≡ answer_of (decide (close_rule node) (told_of count node true streams.now claims.now)) }
 {
     let at = (node - 1) as usize;
     let stream = streams[at];
-    if stream.opened {
-        if close_room(count, node, streams, claims) {
-            return step_parts::DONE;
-        }
-        return step_parts::QUEUE_FULL;
+    if !stream.opened {
+        return Err(Refusal::NotAllowed);
     }
-    step_parts::NOT_ALLOWED
+    if !close_room(count, node, streams, claims) {
+        return Err(Refusal::QueueFull);
+    }
+    Ok(())
 }
 
 // 9 Close: the stream is closed, and where it was the master's, every stream still open is told.
@@ -94,9 +100,9 @@ pub fn close(count: u8, node: u8, streams: [Stream; 8], claims: Claims) -> Board
 }
 
 // Whether all streams that taking the update at the head of the node's requests would tell have room.
-fn update_room(count: u8, node: u8, streams: [Stream; 8], claims: Claims) -> bool
-    requires { UpdateAt count node streams claims }
-    ensures { result ≡ update_room node (told_of count node true streams claims) }
+fn update_room(count: u8, node: u8, streams: &[Stream; 8], claims: &Claims) -> bool
+    requires { UpdateAt count node streams.now claims.now }
+    ensures { result ≡ update_room node (told_of count node true streams.now claims.now) }
 {
     let at = (node - 1) as usize;
     let stream = streams[at];
@@ -115,9 +121,9 @@ fn update_room(count: u8, node: u8, streams: [Stream; 8], claims: Claims) -> boo
 }
 
 // Whether another node holds the id of the update at the head of the node's requests.
-fn is_collision(count: u8, node: u8, streams: [Stream; 8], claims: Claims) -> bool
-    requires { UpdateAt count node streams claims }
-    ensures { result ≡ collides node (told_of count node true streams claims) }
+fn is_collision(count: u8, node: u8, streams: &[Stream; 8], claims: &Claims) -> bool
+    requires { UpdateAt count node streams.now claims.now }
+    ensures { result ≡ collides node (told_of count node true streams.now claims.now) }
 {
     let at = (node - 1) as usize;
     let stream = streams[at];
@@ -128,9 +134,9 @@ fn is_collision(count: u8, node: u8, streams: [Stream; 8], claims: Claims) -> bo
 }
 
 // Whether all streams that handling the update would tell have room: a collision closes the stream.
-fn update_fits(count: u8, node: u8, streams: [Stream; 8], claims: Claims) -> bool
-    requires { UpdateAt count node streams claims }
-    ensures { result ≡ (handle_update_rule node).queues_left (told_of count node true streams claims) }
+fn update_fits(count: u8, node: u8, streams: &[Stream; 8], claims: &Claims) -> bool
+    requires { UpdateAt count node streams.now claims.now }
+    ensures { result ≡ (handle_update_rule node).queues_left (told_of count node true streams.now claims.now) }
 {
     if is_collision(count, node, streams, claims) {
         return close_room(count, node, streams, claims);
@@ -138,29 +144,26 @@ fn update_fits(count: u8, node: u8, streams: [Stream; 8], claims: Claims) -> boo
     update_room(count, node, streams, claims)
 }
 
-// 10 Handle update: its answer.
-pub fn handle_update_code(
+// 10 Handle update: whether it may be done, or why not.
+pub fn check_handle_update(
     count: u8,
     node: u8,
     running: bool,
-    streams: [Stream; 8],
-    claims: Claims,
-) -> u8
-    requires { AtBoard count node streams claims }
-    ensures { result ≡ answer_of (decide (handle_update_rule node) (told_of count node running streams claims)) }
+    streams: &[Stream; 8],
+    claims: &Claims,
+) -> Result<(), Refusal>
+    requires { AtBoard count node streams.now claims.now }
+    ensures { code_of result ≡ answer_of (decide (handle_update_rule node) (told_of count node running streams.now claims.now)) }
 {
     let at = (node - 1) as usize;
     let stream = streams[at];
-    let message = step_streams::waits(running, stream);
-    match message {
-        Message::Update => {
-            if update_fits(count, node, streams, claims) {
-                return step_parts::DONE;
-            }
-            step_parts::QUEUE_FULL
-        }
-        _ => step_parts::NOT_ALLOWED,
+    let Message::Update = step_streams::waits(running, stream) else {
+        return Err(Refusal::NotAllowed);
+    };
+    if !update_fits(count, node, streams, claims) {
+        return Err(Refusal::QueueFull);
     }
+    Ok(())
 }
 
 // The update at the head of the node's requests is taken off, and its id and term become the node's.
@@ -199,7 +202,7 @@ pub fn handle_update(count: u8, node: u8, streams: [Stream; 8], claims: Claims) 
     requires { Tells handle_update_rule count node streams claims }
     ensures { result ≡ store_telling node ((handle_update_rule node).effect (told_of count node true streams claims)) count streams claims }
 {
-    if is_collision(count, node, streams, claims) {
+    if is_collision(count, node, &streams, &claims) {
         return close(count, node, streams, claims);
     }
     updated(count, node, streams, claims)

@@ -1,18 +1,19 @@
 -- Handling a write: what the code reads is what the rule reads, and its stores are what the rule writes. Assumes nothing.
 use mathlib.Core.Path.{◌≡◌, refl, sym, ap, ◌∙◌}
 use mathlib.Core.Bool.{Bool, true, false, not, ◌||◌}
+use Rattle.std.specs.Prelude.{Some, None}
 use Prim.Native.Nat.{ℕ, ◌-◌}
 use lib.Dec.{leb, ltb}
 use lib.ListN.{get_or}
 use Rattle.rules.specs.Limits.{queue_length, history_length}
 use Rattle.rules.specs.Codes.{not_allowed}
 use Rattle.rules.specs.State as S
-use Rattle.rules.specs.Queues.{push, first, rest, empty}
+use Rattle.rules.specs.Queues.{push, first, rest}
 use Rattle.rules.specs.Part.{decide}
 use Rattle.rules.specs.Parts.{Served}
 use Rattle.rules.specs.Rules.{no_request, is_write, accepts, write_answer, handle_write_rule}
 use Rattle.any_list.specs.Queue.{room-held}
-use Rattle.step_parts.specs.Hold.{hold_requests, hold_responses, pack_requests, pack_response, pack_responses, hold_response, no_response, responses_queue}
+use Rattle.step_parts.specs.Hold.{hold_requests, hold_responses, pack_requests, pack_response, pack_responses, pack_write, hold_response, no_response, places}
 use Rattle.step_parts.specs.Ordered.{pop-requests, push-responses}
 use Rattle.step_parts.specs.declared.Message.TheVariants as M
 use Rattle.step_state.specs.Reads.{answer_of, served_of}
@@ -59,7 +60,7 @@ module _ {n : ℕ} {s : Stream} {claims : Claims} (u : WriteAt n s claims) where
   unfolding handle_write_rule accepts judged
   write-answer writes t q e f =
       answer-by (handle_write_rule n) (served_of n true s claims writes) true true t q u.allowed refl e
-      (room-held no_response pack_response hold_response (responses_queue s.responses) u.at.ordered.responses ∙ f)
+      (room-held no_response pack_response hold_response (places s.responses) u.at.ordered.responses ∙ f)
 
 module _ {n : ℕ} {s : Stream} {claims : Claims} (u : CanWrite n s claims) where
   full-not : (b : Bool) → not b ≡ true → b ≡ false
@@ -71,7 +72,7 @@ module _ {n : ℕ} {s : Stream} {claims : Claims} (u : CanWrite n s claims) wher
       ≡ record { opened = s.opened; sent = s.sent; requests = pack_requests (rest (hold_requests s.requests)); responses = pack_responses (push (write_answer status) (hold_responses s.responses)) }
   answered status =
       let o = u.head.at.ordered in
-      let space = full-not (leb queue_length s.responses.len) (sym (room-held no_response pack_response hold_response (responses_queue s.responses) o.responses) ∙ u.roomy) in
+      let space = full-not (leb queue_length s.responses.len) (sym (room-held no_response pack_response hold_response (places s.responses) o.responses) ∙ u.roomy) in
       λ i. record {
         opened = s.opened;
         sent = s.sent;
@@ -82,24 +83,20 @@ module _ {n : ℕ} {s : Stream} {claims : Claims} (u : CanWrite n s claims) wher
   abbrev v : Served
   v = served_of n true s claims 0
 
-  pub accepted : judged n (head_id s) claims ≡ true
-      → record { stream = responded (pack_response (write_answer S.ok)) (without_head s); last = get_or claims.terms (n - 1) (record { 0 = 0 }); accepted = true; term = record { 0 = (first no_request (hold_requests s.requests)).term } }
-      ≡ store_handled ((handle_write_rule n).effect v) s
-  unfolding store_handled handle_write_rule accepts judged first empty
+  pub accepted : judged n (head_id s) claims ≡ true → record {
+    stream = responded (pack_response (write_answer S.ok)) (without_head s);
+    last = get_or claims.terms (n - 1) (record { 0 = 0 });
+    accepted = Some (pack_write (record { node = n; term = (first no_request (hold_requests s.requests)).term }));
+  } ≡ store_handled ((handle_write_rule n).effect v) s
+  unfolding store_handled handle_write_rule accepts judged first
   accepted e = (λ i. record {
     stream = answered S.ok i;
     last = get_or claims.terms (n - 1) (record { 0 = 0 });
-    accepted = true;
-    term = record { 0 = (first no_request (hold_requests s.requests)).term };
+    accepted = Some (pack_write (record { node = n; term = (first no_request (hold_requests s.requests)).term }));
   }) ∙ simp e
 
   pub denied : judged n (head_id s) claims ≡ false
-      → record { stream = responded (pack_response (write_answer S.permission_denied)) (without_head s); last = claims.last; accepted = false; term = record { 0 = 0 } }
+      → record { stream = responded (pack_response (write_answer S.permission_denied)) (without_head s); last = claims.last; accepted = None }
       ≡ store_handled ((handle_write_rule n).effect v) s
-  unfolding store_handled handle_write_rule accepts judged first empty
-  denied e = (λ i. record {
-    stream = answered S.permission_denied i;
-    last = claims.last;
-    accepted = false;
-    term = record { 0 = 0 };
-  }) ∙ simp e
+  unfolding store_handled handle_write_rule accepts judged first
+  denied e = (λ i. record { stream = answered S.permission_denied i; last = claims.last; accepted = None }) ∙ simp e

@@ -1,11 +1,12 @@
-// The switch's steps at one stream: Connect and Handle write, kinds 8 and 11. A step is two functions: one gives its answer code and only reads, the
-// other does what is to be done where the code is 0.
+// The switch's steps at one stream: Connect and Handle write, kinds 8 and 11. A step is two functions: one only reads and says whether it may be done, the
+// other does it.
 #![tactic(auto)]
 
 ghost use Rattle.std.specs.Prelude.{◌≡◌, true, ◌≤◌, leb};
 ghost use Rattle.rules.specs.Limits.{most_nodes};
 ghost use Rattle.rules.specs.Part.{decide};
 ghost use Rattle.rules.specs.Rules.{connect_rule, handle_write_rule};
+ghost use Rattle.step_parts.specs.Answers.{code_of};
 ghost use Rattle.step_parts.specs.declared.Message.TheVariants as M;
 ghost use Rattle.step_state.specs.Reads.{answer_of, linked_of, served_of};
 ghost use Rattle.step_state.specs.Stores.{store_open};
@@ -13,20 +14,17 @@ ghost use Rattle.step_switch_row.specs.Asks.{AtStream, WriteAt, CanWrite};
 ghost use Rattle.step_switch_row.specs.Does.{judged};
 ghost use Rattle.step_switch_row.specs.Handled.{store_handled};
 
-use step_parts::{ElectionId, Message, Response, Status, Term};
+use step_parts::{ElectionId, Message, Refusal, Response, Status, Term, Write};
 use step_state::{Claims, Stream};
 
-// 8 Connect: its answer.
-pub fn connect_code(running: bool, stream: Stream) -> u8
-    ensures { result ≡ answer_of (decide connect_rule (linked_of running stream)) }
+// 8 Connect: whether it may be done, or why not.
+pub fn check_connect(running: bool, stream: &Stream) -> Result<(), Refusal>
+    ensures { code_of result ≡ answer_of (decide connect_rule (linked_of running stream.now)) }
 {
-    if running {
-        if stream.opened {
-            return step_parts::NOT_ALLOWED;
-        }
-        return step_parts::DONE;
+    if !running || stream.opened {
+        return Err(Refusal::NotAllowed);
     }
-    step_parts::NOT_ALLOWED
+    Ok(())
 }
 
 // 8 Connect: the stream is opened.
@@ -38,13 +36,12 @@ pub fn connect(stream: Stream) -> Stream
     next
 }
 
-// A write that was handled. `term` is that of the request where it was accepted, and 0 else.
+// A write that was handled: the stream, the last accepted term, and the write, if it was accepted.
 #[derive(Clone, Copy)]
 pub struct Handled {
     pub stream: Stream,
     pub last: Term,
-    pub accepted: bool,
-    pub term: Term,
+    pub accepted: Option<Write>,
 }
 
 // Whether a term is at least the last accepted one.
@@ -55,9 +52,9 @@ fn is_current(last: Term, term: Term) -> bool
 }
 
 // Whether the switch accepts a write with this id from the node.
-fn accepts(node: u8, id: ElectionId, claims: Claims) -> bool
+fn accepts(node: u8, id: ElectionId, claims: &Claims) -> bool
     requires { (1 ≤ node) × (node ≤ most_nodes) }
-    ensures { result ≡ judged node id.0 claims }
+    ensures { result ≡ judged node id.0 claims.now }
 {
     let at = (node - 1) as usize;
     let ids = claims.ids;
@@ -84,33 +81,35 @@ fn written(status: Status) -> Response
     }
 }
 
-// The answer to the write at the head of the stream's requests.
-fn write_code(node: u8, stream: Stream, claims: Claims, writes: u16) -> u8
-    requires { WriteAt node stream claims }
-    ensures { result ≡ answer_of (decide (handle_write_rule node) (served_of node true stream claims writes)) }
+// Whether the write at the head of the stream's requests may be handled, or why not.
+fn check_write(node: u8, stream: &Stream, claims: &Claims, writes: u16) -> Result<(), Refusal>
+    requires { WriteAt node stream.now claims.now }
+    ensures { code_of result ≡ answer_of (decide (handle_write_rule node) (served_of node true stream.now claims.now writes)) }
 {
-    let request = step_streams::head(stream);
-    let id = request.id;
-    if accepts(node, id, claims) {
-        if step_parts::HISTORY_LENGTH <= writes {
-            return step_parts::HISTORY_FULL;
-        }
+    let request = step_streams::head(*stream);
+    if accepts(node, request.id, claims) && step_parts::HISTORY_LENGTH <= writes {
+        return Err(Refusal::HistoryFull);
     }
     if stream.responses.full() {
-        return step_parts::QUEUE_FULL;
+        return Err(Refusal::QueueFull);
     }
-    step_parts::DONE
+    Ok(())
 }
 
-// 11 Handle write: its answer. The history holds `writes`.
-pub fn handle_write_code(node: u8, running: bool, stream: Stream, claims: Claims, writes: u16) -> u8
-    requires { AtStream node stream }
-    ensures { result ≡ answer_of (decide (handle_write_rule node) (served_of node running stream claims writes)) }
+// 11 Handle write: whether it may be done, or why not. The history holds `writes`.
+pub fn check_handle_write(
+    node: u8,
+    running: bool,
+    stream: &Stream,
+    claims: &Claims,
+    writes: u16,
+) -> Result<(), Refusal>
+    requires { AtStream node stream.now }
+    ensures { code_of result ≡ answer_of (decide (handle_write_rule node) (served_of node running stream.now claims.now writes)) }
 {
-    let message = step_streams::waits(running, stream);
-    match message {
-        Message::Write => write_code(node, stream, claims, writes),
-        _ => step_parts::NOT_ALLOWED,
+    match step_streams::waits(running, *stream) {
+        Message::Write => check_write(node, stream, claims, writes),
+        _ => Err(Refusal::NotAllowed),
     }
 }
 
@@ -120,27 +119,20 @@ pub fn handle_write(node: u8, stream: Stream, claims: Claims) -> Handled
     ensures { result ≡ store_handled ((handle_write_rule node).effect (served_of node true stream claims 0)) stream }
 {
     let request = step_streams::head(stream);
-    let id = request.id;
     let row = step_streams::without_head(stream);
-    if accepts(node, id, claims) {
-        let at = (node - 1) as usize;
-        let terms = claims.terms;
-        let last = terms[at];
-        let term = request.term;
-        let next = step_streams::respond(row, written(Status::Ok));
+    if accepts(node, request.id, &claims) {
         return Handled {
-            stream: next,
-            last: last,
-            accepted: true,
-            term: term,
+            stream: step_streams::respond(row, written(Status::Ok)),
+            last: claims.terms[(node - 1) as usize],
+            accepted: Some(Write {
+                node,
+                term: request.term,
+            }),
         };
     }
-    let last = claims.last;
-    let next = step_streams::respond(row, written(Status::PermissionDenied));
     Handled {
-        stream: next,
-        last: last,
-        accepted: false,
-        term: Term(0),
+        stream: step_streams::respond(row, written(Status::PermissionDenied)),
+        last: claims.last,
+        accepted: None,
     }
 }

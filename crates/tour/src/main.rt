@@ -9,10 +9,10 @@
 //     =M0  =L0      the switch's master, and the largest id
 #![tactic(auto)]
 
-use files::{Input, Output};
+use files::Stop;
 use std::fmt::InlineText;
 use std::process::ExitCode;
-use step::Report;
+use step::Open;
 use step_state::{Claims, History, State};
 
 // A number, and the state from then on.
@@ -23,7 +23,7 @@ struct Shown {
 }
 
 // The open streams.
-fn open_streams(open: Report, what: u8) -> u64 {
+fn open_streams(open: Open, what: u8) -> u64 {
     if what == b'O' {
         return open.word as u64;
     }
@@ -59,7 +59,10 @@ fn held(claims: Claims, what: u8, place: u8) -> u64 {
 
 fn looked(state: State, what: u8, n: u8) -> u64 {
     if (what == b'O') | (what == b'C') {
-        return open_streams(step::open_streams(state), what);
+        return match step::open_streams(state) {
+            Ok(open) => open_streams(open, what),
+            Err(_) => 0,
+        };
     }
     if (what == b'W') | (what == b'T') {
         let history = state.history;
@@ -73,50 +76,41 @@ fn looked(state: State, what: u8, n: u8) -> u64 {
 fn answer(state: State, what: u8, n: u8) -> Shown {
     if what == b'F' {
         let made = step::fresh(n);
-        let next = made.state;
         return Shown {
-            number: made.code as u64,
-            state: next,
+            number: step_parts::code(made.answer) as u64,
+            state: made.state,
         };
     }
     if what < b'a' {
         return Shown {
             number: looked(state, what, n),
-            state: state,
+            state,
         };
     }
     let stepped = step::step(state, what & 31, n);
-    let next = stepped.state;
     Shown {
-        number: stepped.code as u64,
-        state: next,
+        number: step_parts::code(stepped.answer) as u64,
+        state: stepped.state,
     }
 }
 
 // Prints a text, and the number behind it.
-fn print_answer(rt: &HostRuntime, text: &[u8], number: u64) -> Output {
+fn print_answer(rt: &HostRuntime, text: &[u8], number: u64) -> Result<(), Stop> {
     let digits = InlineText::<20>::of(number);
-    let output = files::print(rt, text);
-    if !output.is_whole() {
-        return output;
-    }
+    files::print(rt, text)?;
     files::print(rt, digits.as_str().as_bytes())
 }
 
-fn play(rt: &HostRuntime, script: &[u8]) -> Output {
-    let made = step::fresh(1);
-    let mut state = made.state;
+// The place is moved by hand: a step of it is one byte or three, and no iterator goes so.
+fn play(rt: &HostRuntime, script: &[u8]) -> Result<(), Stop> {
+    let mut state = step::fresh(1).state;
     let mut from: usize = 0;
     let mut i: usize = 0;
     while i + 2 < script.len() {
         if script[i] == b'=' {
             let given = answer(state, script[i + 1], script[i + 2] & 15);
-            let output = print_answer(rt, &script[from..i], given.number);
-            if !output.is_whole() {
-                return output;
-            }
-            let next = given.state;
-            state = next;
+            print_answer(rt, &script[from..i], given.number)?;
+            state = given.state;
             i += 3;
             from = i;
         } else {
@@ -126,11 +120,12 @@ fn play(rt: &HostRuntime, script: &[u8]) -> Output {
     files::print(rt, &script[from..])
 }
 
-fn main(rt: HostRuntime) -> ExitCode {
+fn run(rt: &HostRuntime) -> Result<(), Stop> {
     let mut script = [0u8; 4096];
-    let n = match files::read_input(&rt, &mut script) {
-        Input::Whole(n) => n,
-        Input::Refused(output) => return output.status(),
-    };
-    play(&rt, &script[..n]).status()
+    let n = files::read_input(rt, &mut script)?;
+    play(rt, &script[..n])
+}
+
+fn main(rt: HostRuntime) -> ExitCode {
+    files::status(run(&rt))
 }

@@ -1,10 +1,10 @@
 -- Protobuf's own rule: two messages one after the other are read as the merge of what each says. Assumes nothing.
-use Rattle.std.specs.Prelude.{◌≡◌, Bool, true, false, cond, List, ◌++◌, ℕ, eqb}
+use Rattle.std.specs.Prelude.{◌≡◌, Bool, true, false, cond, List, ◌++◌, ℕ, eqb, Ok, Err}
 use Rattle.std.proofs.Math.Path.{refl, ap}
 use Rattle.std.proofs.Common.{sym, ap₂, ◌∙◌}
 use Rattle.std.proofs.Math.Option.{Option, none, some}
 use Rattle.wire_fields.specs.Fields.{Field, varint, fixed, bytes}
-use Rattle.wire_fields.specs.Messages.{Reading, whole, broken, mapped, message}
+use Rattle.wire_fields.specs.Messages.{Reading, mapped, message}
 use Rattle.wire_fields.specs.Folding.{message-append, message-seen}
 use Rattle.wire_arbitration.specs.Update.{Role, Uint128, Status, Update, no_role, no_election, no_status, nothing, scalar, in_role, in_election, in_status, or_else, embedded, with_role, with_election, with_status, took, reading}
 use Rattle.wire_arbitration.specs.Merge.{later, merge_role, merge_election, merge_status, both, merge}
@@ -78,18 +78,18 @@ module _ {A : Type 0} (k : Kind A) where
       → mapped (both k.join old) (embedded k.inside k.blank new held) ≡ embedded k.inside k.blank (both k.join old new) held
   embedded-merged old new held =
       go (message table (or_else k.blank new) held)
-      ∙ ap (mapped some) (message-seen table table (k.join under) (λ f a. ap whole (k.each under f a)) held (or_else k.blank new))
+      ∙ ap (mapped some) (message-seen table table (k.join under) (λ f a. ap Ok (k.each under f a)) held (or_else k.blank new))
       ∙ ap (λ (a : A). mapped some (message table a held)) (on-top old new)
     where
       table : Field → A → Reading A
-      table f a = whole (k.inside f a)
+      table f a = Ok (k.inside f a)
 
       under : A
       under = or_else k.blank old
 
       go : (r : Reading A) → mapped (both k.join old) (mapped some r) ≡ mapped some (mapped (k.join under) r)
-      go (whole a) = ap whole (sym (present old a))
-      go (broken why) = refl
+      go (Ok a) = ap Ok (sym (present old a))
+      go (Err why) = refl
 
 -- ---- the whole message
 
@@ -101,19 +101,19 @@ module _ (u : Update) where
   one {A} k v put old new held e = go (embedded k.inside k.blank new held) ∙ ap (mapped (put (merge u v))) (embedded-merged k old new held)
     where
       go : (r : Reading (Option A)) → mapped (merge u) (mapped (put v) r) ≡ mapped (put (merge u v)) (mapped (both k.join old) r)
-      go (whole x) = ap whole (e x)
-      go (broken why) = refl
+      go (Ok x) = ap Ok (e x)
+      go (Err why) = refl
 
   took-merged : (f : Field) (v : Update) → mapped (merge u) (took f v) ≡ took f (merge u v)
   unfolding roles elections statuses
   took-merged (varint k value) v =
-      ap (λ (d : Option ℕ). whole (record { device = d; role = (merge u v).role; election = (merge u v).election; status = (merge u v).status })) (later-scalar 1 (varint k value) u.device v.device)
+      ap (λ (d : Option ℕ). Ok (record { device = d; role = (merge u v).role; election = (merge u v).election; status = (merge u v).status })) (later-scalar 1 (varint k value) u.device v.device)
   took-merged (fixed k) v = refl
   took-merged (bytes k held) v =
       either_same (mapped (merge u)) (eqb k 2) (one roles v with_role u.role v.role held (λ x. refl))
       (either_same (mapped (merge u)) (eqb k 3) (one elections v with_election u.election v.election held (λ x. refl))
       (either_same (mapped (merge u)) (eqb k 4) (one statuses v with_status u.status v.status held (λ x. refl)) refl))
 
-pub concatenation : (x y : List ℕ) (u v : Update) → reading x ≡ whole u → reading y ≡ whole v → reading (x ++ y) ≡ whole (merge u v)
+pub concatenation : (x y : List ℕ) (u v : Update) → reading x ≡ Ok u → reading y ≡ Ok v → reading (x ++ y) ≡ Ok (merge u v)
 unfolding reading
 concatenation x y u v p q = message-append took x y nothing u p ∙ sym (message-seen took took (merge u) (took-merged u) y nothing) ∙ ap (mapped (merge u)) q

@@ -1,5 +1,4 @@
--- Believed: Update, Seen, Arbitration, Merge.
--- Definitions: Raw.
+-- Believed: Update, Seen, Arbitration, Merge, Raw.
 -- Laws: Choices, Unknown, Seeing, Signed, Sample.
 pub mod Update
 pub mod Seen

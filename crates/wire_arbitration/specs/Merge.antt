@@ -1,8 +1,8 @@
 -- What two messages say, one after the other, and which fields say nothing.
-use Rattle.std.specs.Prelude.{◌≡◌, Bool, true, false, not, ◌&&◌, ◌||◌, List, ℕ, eqb}
+use Rattle.std.specs.Prelude.{◌≡◌, Bool, true, false, not, ◌&&◌, ◌||◌, List, ℕ, eqb, Ok}
 use Rattle.std.proofs.Math.Option.{Option, none, some}
 use Rattle.wire_fields.specs.Fields.{Field, varint, fixed, bytes}
-use Rattle.wire_fields.specs.Messages.{whole, message}
+use Rattle.wire_fields.specs.Messages.{message}
 use Rattle.wire_arbitration.specs.Update.{Role, Uint128, Status, Update}
 
 -- A scalar that the later one gives wins.
@@ -51,4 +51,4 @@ unknown_in k f = not (is_scalar 1 f || eqb k 3 && is_scalar 2 f)
 
 -- Fields, one after the other, and nothing behind them.
 abbrev pub Fields : List ℕ → Type 0
-Fields l = message (λ f (n : ℕ). whole n) 0 l ≡ whole 0
+Fields l = message (λ f (n : ℕ). Ok n) 0 l ≡ Ok 0

@@ -1,9 +1,10 @@
 -- What the code makes of each field.
-use Rattle.std.specs.Prelude.{true, cond, List, ℕ, eqb}
-use Rattle.wire_fields.specs.Numbers.{code_of}
+use Rattle.std.specs.Prelude.{true, false, cond, List, ℕ, eqb, Ok}
 use Rattle.wire_fields.specs.Fields.{Field, varint, fixed, bytes}
-use Rattle.wire_fields.specs.Messages.{Reading, whole, broken, mapped, message}
+use Rattle.wire_fields.specs.Messages.{Reading, mapped, message}
 use Rattle.wire_fields.specs.declared.Field as Placed
+use Rattle.wire_fields.specs.declared.Held.{Held}
+use Rattle.wire_fields.specs.declared.Held.TheVariants.{Varint, Fixed, Bytes}
 use Rattle.wire_arbitration.specs.declared.Pair.{Pair}
 use Rattle.wire_arbitration.specs.declared.Raw.{Raw}
 
@@ -13,45 +14,39 @@ see_scalar n (fixed k) old = old
 see_scalar n (bytes k held) old = old
 
 -- The same of the field that stands at a place.
-unfoldable pub last_at : Placed.Field → ℕ → ℕ → ℕ
-last_at f n old = cond (eqb f.kind 0) (cond (eqb f.number n) f.value old) old
+abbrev pub last_held : Held → ℕ → ℕ → ℕ → ℕ
+last_held (Varint value) number n old = cond (eqb number n) value old
+last_held Fixed number n old = old
+last_held (Bytes start) number n old = old
+
+abbrev pub last_at : Placed.Field → ℕ → ℕ → ℕ
+last_at f n old = last_held f.held f.number n old
 
 -- An embedded message of one scalar, and of two.
 abbrev pub see_first : Field → ℕ → Reading ℕ
-see_first f old = whole (see_scalar 1 f old)
+see_first f old = Ok (see_scalar 1 f old)
 
-pub record Two : Type 0 where
-  pub first : ℕ
-  pub second : ℕ
+abbrev pub paired : ℕ → ℕ → Reading Pair
+paired first second = Ok (record { first = first; second = second })
 
-abbrev pub see_two : Field → Two → Reading Two
-see_two f t = whole (record { first = see_scalar 1 f t.first; second = see_scalar 2 f t.second })
+abbrev pub see_two : Field → Pair → Reading Pair
+see_two f t = paired (see_scalar 1 f t.first) (see_scalar 2 f t.second)
 
-abbrev pub pair_of : Reading Two → Pair
-pair_of (whole t) = record { code = 0; first = t.first; second = t.second }
-pair_of (broken why) = record { code = code_of why; first = 0; second = 0 }
+-- What no bytes say.
+abbrev pub nothing_said : Raw
+nothing_said = record { device = 0; role = false; id = 0; election = false; high = 0; low = 0; status = false; error = 0 }
 
 abbrev pub with_device : Raw → ℕ → Raw
-with_device r v = record { code = r.code; device = v; role = r.role; id = r.id; election = r.election; high = r.high; low = r.low; status = r.status; error = r.error }
+with_device r v = record { device = v; role = r.role; id = r.id; election = r.election; high = r.high; low = r.low; status = r.status; error = r.error }
 
 abbrev pub with_role : Raw → ℕ → Raw
-with_role r v = record { code = r.code; device = r.device; role = true; id = v; election = r.election; high = r.high; low = r.low; status = r.status; error = r.error }
+with_role r v = record { device = r.device; role = true; id = v; election = r.election; high = r.high; low = r.low; status = r.status; error = r.error }
 
-abbrev pub with_election : Raw → Two → Raw
-with_election r t = record {
-  code = r.code;
-  device = r.device;
-  role = r.role;
-  id = r.id;
-  election = true;
-  high = t.first;
-  low = t.second;
-  status = r.status;
-  error = r.error;
-}
+abbrev pub with_election : Raw → Pair → Raw
+with_election r t = record { device = r.device; role = r.role; id = r.id; election = true; high = t.first; low = t.second; status = r.status; error = r.error }
 
 abbrev pub with_status : Raw → ℕ → Raw
-with_status r v = record { code = r.code; device = r.device; role = r.role; id = r.id; election = r.election; high = r.high; low = r.low; status = true; error = v }
+with_status r v = record { device = r.device; role = r.role; id = r.id; election = r.election; high = r.high; low = r.low; status = true; error = v }
 
 abbrev pub see_role : List ℕ → Raw → Reading Raw
 see_role held r = mapped (with_role r) (message see_first r.id held)
@@ -63,16 +58,13 @@ abbrev pub see_status : List ℕ → Raw → Reading Raw
 see_status held r = mapped (with_status r) (message see_first r.error held)
 
 unfoldable pub see_bytes : ℕ → List ℕ → Raw → Reading Raw
-see_bytes k held r = cond (eqb k 2) (see_role held r) (cond (eqb k 3) (see_election held r) (cond (eqb k 4) (see_status held r) (whole r)))
+see_bytes k held r = cond (eqb k 2) (see_role held r) (cond (eqb k 3) (see_election held r) (cond (eqb k 4) (see_status held r) (Ok r)))
 
 abbrev pub see : Field → Raw → Reading Raw
-see (varint k v) r = whole (with_device r (see_scalar 1 (varint k v) r.device))
-see (fixed k) r = whole r
+see (varint k v) r = Ok (with_device r (see_scalar 1 (varint k v) r.device))
+see (fixed k) r = Ok r
 see (bytes k held) r = see_bytes k held r
 
--- A message on top of what an earlier one gave. What is known has no fault.
-abbrev pub known : Raw → Raw
-known r = record { code = 0; device = r.device; role = r.role; id = r.id; election = r.election; high = r.high; low = r.low; status = r.status; error = r.error }
-
+-- A message on top of what an earlier one gave.
 abbrev pub message_onto : Raw → List ℕ → Reading Raw
-message_onto r l = message see (known r) l
+message_onto r l = message see r l

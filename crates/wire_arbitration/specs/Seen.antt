@@ -1,8 +1,8 @@
 -- What the code keeps of a message: absent scalars are 0, and the status code is as wide as on the wire.
-use Rattle.std.specs.Prelude.{Bool, true, false, ℕ}
+use Rattle.std.specs.Prelude.{Bool, true, false, ℕ, Result}
 use Rattle.std.proofs.Math.Option.{Option, none, some}
-use Rattle.wire_fields.specs.Numbers.{code_of}
-use Rattle.wire_fields.specs.Messages.{Reading, whole, broken, mapped}
+use Rattle.wire_fields.specs.declared.Fault.{Fault}
+use Rattle.wire_fields.specs.Messages.{Reading, mapped}
 use Rattle.wire_arbitration.specs.Update as Spec
 use Rattle.wire_arbitration.specs.declared.Raw.{Raw}
 
@@ -17,7 +17,6 @@ is_given (some a) = true
 
 abbrev pub seen : Spec.Update → Raw
 seen u = record {
-  code = 0;
   device = value u.device;
   role = is_given u.role;
   id = value (Spec.or_else Spec.no_role u.role).id;
@@ -28,13 +27,5 @@ seen u = record {
   error = value (Spec.or_else Spec.no_status u.status).code;
 }
 
--- Beside a fault nothing is present and all is 0.
-abbrev pub refused_raw : ℕ → Raw
-refused_raw code = record { code = code; device = 0; role = false; id = 0; election = false; high = 0; low = 0; status = false; error = 0 }
-
-abbrev pub settled : Reading Raw → Raw
-settled (whole r) = r
-settled (broken why) = refused_raw (code_of why)
-
-abbrev pub raw_of : Reading Spec.Update → Raw
-raw_of r = settled (mapped seen r)
+abbrev pub raw_of : Reading Spec.Update → Result Raw Fault
+raw_of r = mapped seen r

@@ -1,14 +1,17 @@
 -- The low 32 bits as the code makes them signed. Assumes nothing.
-use Rattle.std.specs.Prelude.{◌≡◌, refl, ℕ, zero, suc, ◌-◌, ◌%◌, ◌^◌, ◌<◌, ◌≤◌, ℤ, pos, negsuc, ◌-ℤ◌}
+use Rattle.std.specs.Prelude.{◌≡◌, refl, ℕ, zero, suc, ◌-◌, ◌%◌, ◌^◌, ◌<◌, ◌≤◌, ℤ, pos, negsuc, ◌-ℤ◌, Ok, Err}
 use Rattle.std.proofs.Common.{ap, ◌∙◌, arith, SFits, to_z, of_z, to_z-of_z, lt-ltb, le-ltb}
 use Rattle.std.specs.Int.Bits.{bit_and}
 use Rattle.std.proofs.lemmas.Nat.{and_mask}
 use Rattle.std.specs.Int.{w32}
 use Rattle.std.proofs.Math.Facts.{to_z_pos}
-use Rattle.wire_fields.specs.Messages.{Reading, whole, broken}
-use Rattle.wire_arbitration.specs.Update.{Update}
-use Rattle.wire_arbitration.specs.Seen.{raw_of}
-use Rattle.wire_arbitration.specs.Arbitration.{signed, low32, arbitration}
+use Rattle.std.specs.Bool.{then_some}
+use Rattle.std.proofs.Math.Option as Said
+use Rattle.std.proofs.Math.Option.{none, some}
+use Rattle.wire_fields.specs.Messages.{Reading, mapped}
+use Rattle.wire_arbitration.specs.Update as Spec
+use Rattle.wire_arbitration.specs.Seen.{value, is_given, raw_of}
+use Rattle.wire_arbitration.specs.Arbitration.{signed, low32, role_of, election_of, status_of, arbitration}
 use Rattle.wire_arbitration.specs.declared.Raw.{Raw}
 use Rattle.wire_arbitration.specs.declared.Arbitration.{Arbitration}
 
@@ -48,14 +51,25 @@ low-negative v h =
 
 abbrev pub shown : Raw → ℤ → Arbitration
 shown r code = record {
-  code = r.code;
   device = r.device;
-  role = record { present = r.role; id = r.id };
-  election = record { present = r.election; high = r.high; low = r.low };
-  status = record { present = r.status; code = code };
+  role = then_some r.role (record { id = r.id });
+  election = then_some r.election (record { high = r.high; low = r.low });
+  status = then_some r.status (record { code = code });
 }
 
-pub shows : (s : Reading Update) → shown (raw_of s) (low32 (raw_of s).error) ≡ arbitration s
-unfolding signed
-shows (whole u) = refl
-shows (broken why) = refl
+shows-role : (o : Said.Option Spec.Role) → then_some (is_given o) (record { id = value (Spec.or_else Spec.no_role o).id }) ≡ role_of o
+shows-role none = refl
+shows-role (some r) = refl
+
+shows-election : (o : Said.Option Spec.Uint128)
+    → then_some (is_given o) (record { high = value (Spec.or_else Spec.no_election o).high; low = value (Spec.or_else Spec.no_election o).low }) ≡ election_of o
+shows-election none = refl
+shows-election (some e) = refl
+
+shows-status : (o : Said.Option Spec.Status) → then_some (is_given o) (record { code = low32 (value (Spec.or_else Spec.no_status o).code) }) ≡ status_of o
+shows-status none = refl
+shows-status (some s) = refl
+
+pub shows : (s : Reading Spec.Update) → mapped (λ (r : Raw). shown r (low32 r.error)) (raw_of s) ≡ arbitration s
+shows (Ok u) = rw (shows-role u.role, shows-election u.election, shows-status u.status) refl
+shows (Err why) = refl

@@ -2,10 +2,10 @@
 --   uint64 device_id = 1; Role role = 2; Uint128 election_id = 3; google.rpc.Status status = 4;
 --   Role: uint64 id = 1; Uint128: uint64 high = 1, uint64 low = 2; Status: int32 code = 1.
 -- Role's config, Status's message and its details are not asked for, so that they are unknown fields here.
-use Rattle.std.specs.Prelude.{cond, List, ℕ, eqb}
+use Rattle.std.specs.Prelude.{cond, List, ℕ, eqb, Ok}
 use Rattle.std.proofs.Math.Option.{Option, none, some}
 use Rattle.wire_fields.specs.Fields.{Field, varint, fixed, bytes}
-use Rattle.wire_fields.specs.Messages.{Reading, whole, mapped, message}
+use Rattle.wire_fields.specs.Messages.{Reading, mapped, message}
 
 pub record Role : Type 0 where
   pub id : Option ℕ
@@ -57,7 +57,7 @@ in_status f s = record { code = scalar 1 f s.code }
 
 -- An embedded message is read on top of what an earlier one gave, and is present from then on.
 abbrev pub embedded : {A : Type 0} → (Field → A → A) → A → Option A → List ℕ → Reading (Option A)
-embedded inside blank old held = mapped some (message (λ f a. whole (inside f a)) (or_else blank old) held)
+embedded inside blank old held = mapped some (message (λ f a. Ok (inside f a)) (or_else blank old) held)
 
 abbrev pub with_role : Update → Option Role → Update
 with_role u r = record { device = u.device; role = r; election = u.election; status = u.status }
@@ -70,13 +70,13 @@ with_status u s = record { device = u.device; role = u.role; election = u.electi
 
 -- What a field makes of what those before it have given.
 abbrev pub took : Field → Update → Reading Update
-took (varint k value) u = whole (record { device = scalar 1 (varint k value) u.device; role = u.role; election = u.election; status = u.status })
-took (fixed k) u = whole u
+took (varint k value) u = Ok (record { device = scalar 1 (varint k value) u.device; role = u.role; election = u.election; status = u.status })
+took (fixed k) u = Ok u
 took (bytes k held) u =
     cond (eqb k 2) (mapped (with_role u) (embedded in_role no_role u.role held))
     (cond (eqb k 3) (mapped (with_election u) (embedded in_election no_election u.election held))
     (cond (eqb k 4) (mapped (with_status u) (embedded in_status no_status u.status held))
-    (whole u)))
+    (Ok u)))
 
 unfoldable pub reading : List ℕ → Reading Update
 reading l = message took nothing l

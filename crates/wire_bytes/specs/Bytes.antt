@@ -1,7 +1,7 @@
 -- What reading a message into a lent buffer gives: the fields as forty bytes.
-use Rattle.std.specs.Prelude.{Bool, cond, List, [], ◌∷◌, ◌++◌, ℕ, zero, suc, ◌/◌, ◌%◌, leb, length, drop}
+use Rattle.std.specs.Prelude.{Bool, cond, List, [], ◌∷◌, ◌++◌, ℕ, zero, suc, ◌/◌, ◌%◌, leb, length, drop, Ok, Err}
 use Rattle.wire_fields.specs.Numbers.{code_of}
-use Rattle.wire_fields.specs.Messages.{Reading, whole, broken}
+use Rattle.wire_fields.specs.Messages.{Reading}
 use Rattle.wire_arbitration.specs.Update.{Update, reading}
 use Rattle.wire_arbitration.specs.Seen.{seen}
 use Rattle.wire_arbitration.specs.declared.Raw.{Raw}
@@ -37,8 +37,8 @@ pub record Reported : Type 0 where
 
 -- A refusal leaves the buffer. A message that cannot be read is refused before a buffer that is too short.
 abbrev pub reported_as : Reading Update → List ℕ → Reported
-reported_as (broken why) fields = record { returned = code_of why; fields = fields }
-reported_as (whole u) fields =
+reported_as (Err why) fields = record { returned = code_of why; fields = fields }
+reported_as (Ok u) fields =
     cond (leb field_length (length fields))
     (record { returned = 0; fields = field_bytes (seen u) ++ drop field_length fields })
     (record { returned = out_too_short; fields = fields })

@@ -27,31 +27,31 @@ little-more (suc n) v = ap (λ (l : List ℕ). v % 256 ∷ l) (little-more n (v 
 
 -- ---- the loop that puts them
 
-pub record Putting (before : List ℕ) (at size v : ℕ) (buf : List ℕ) (next left i : ℕ) : Type 0 where
+pub record Putting (before : List ℕ) (at size v : ℕ) (buf : List ℕ) (left i : ℕ) : Type 0 where
   pub few : i ≤ size
   pub rest : left ≡ above i v
-  pub put : Put before at (little i v) buf next
+  pub put : Put before at (little i v) buf (at + i)
 
-pub putting-starts : (buf : List ℕ) (at size v : ℕ) → Putting buf at size v buf at v 0
+pub putting-starts : (buf : List ℕ) (at size v : ℕ) → Putting buf at size v buf v 0
 unfolding little above
-putting-starts buf at size v = record { few = omega arith; rest = refl; put = put-none buf at }
+putting-starts buf at size v = record { few = omega arith; rest = refl; put = let e : at + 0 ≡ at = omega arith in rw e (put-none buf at) }
 
-module _ {before : List ℕ} {at size v : ℕ} {buf : List ℕ} {next left i : ℕ} (p : Putting before at size v buf next left i) where
-  pub putting-inside : Room before at (little size v) → i < size → next < length buf
+module _ {before : List ℕ} {at size v : ℕ} {buf : List ℕ} {left i : ℕ} (p : Putting before at size v buf left i) where
+  pub putting-inside : Room before at (little size v) → i < size → at + i < length buf
   putting-inside room more =
-      let n = p.put.place in
-      let k = little-length i v in
       let m = little-length size v in
       let l = put-length p.put in
       let r = room.enough in
       omega arith
 
-  pub putting-more : i < size → Putting before at size v (set buf next (left % 256)) (next + 1) (left / 256) (i + 1)
-  putting-more more = record {
-    few = omega arith;
-    rest = rw (add-one i, above_more i v) (ap (λ (x : ℕ). x / 256) p.rest);
-    put = rw (add-one i, little-more i v, ← p.rest) (put_then p.put (record { content = refl; place = refl }));
-  }
+  pub putting-more : i < size → Putting before at size v (set buf (at + i) (left % 256)) (left / 256) (i + 1)
+  putting-more more =
+      let next : at + suc i ≡ at + i + 1 = omega arith in
+      record {
+        few = omega arith;
+        rest = rw (add-one i, above_more i v) (ap (λ (x : ℕ). x / 256) p.rest);
+        put = rw (add-one i, next, little-more i v, ← p.rest) (put_then p.put (record { content = refl; place = refl }));
+      }
 
-  pub putting-ends : size ≤ i → Put before at (little size v) buf next
+  pub putting-ends : size ≤ i → Put before at (little size v) buf (at + size)
   putting-ends all = let few = p.few in let same : i ≡ size = omega arith in rw (← same) p.put

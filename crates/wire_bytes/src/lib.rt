@@ -7,32 +7,24 @@ ghost use Rattle.wire_bytes.specs.Bytes.{little, flag, number_bytes, flag_bytes,
 
 use wire_arbitration::Raw;
 
-// The low bytes of a number, the least first.
+// The low bytes of a number, the least first: so many as a parameter says, which `to_le_bytes` does not.
 pub fn put_little(buf: &mut [u8], at: usize, size: usize, v: u64) -> usize
     requires { Room buf.old at (little size v) }
     ensures { Put buf.old at (little size v) buf.new result }
 {
-    let mut next = at;
     let mut left = v;
-    let mut i: usize = 0;
-    while i < size {
-        buf[next] = (left % 256) as u8;
-        left = left / 256;
-        next += 1;
-        i += 1;
+    for i in 0..size {
+        buf[at + i] = (left % 256) as u8;
+        left /= 256;
     }
-    next
+    at + size
 }
 
 fn put_flag(buf: &mut [u8], at: usize, present: bool) -> usize
     requires { Room buf.old at (flag present ∷ []) }
     ensures { Put buf.old at (flag present ∷ []) buf.new result }
 {
-    if present {
-        buf[at] = 1;
-        return at + 1;
-    }
-    buf[at] = 0;
+    buf[at] = present as u8;
     at + 1
 }
 
@@ -68,6 +60,9 @@ pub fn put_fields(buf: &mut [u8], read: Raw) -> usize
 // The most that is put.
 pub const FIELD_BYTES: usize = 40;
 
+// What a host is told, as numbers, for C.
+const DONE: u32 = 0;
+
 const OUT_TOO_SHORT: u32 = 12;
 
 // Reads a message and puts its fields at the front of the buffer; bytes after them stay. Returns 0, or why not: then the buffer stays as it was.
@@ -75,13 +70,12 @@ pub fn read_into(message: &[u8], fields: &mut [u8]) -> u32
     ensures { (result ≡ (reported message.now fields.old).returned)
         × (fields.new ≡ (reported message.now fields.old).fields) }
 {
-    let read = wire_arbitration::read_raw(message);
-    if read.code == wire_fields::READ {
-        if FIELD_BYTES <= fields.len() {
+    match wire_arbitration::read_raw(message) {
+        Err(fault) => fault.number() as u32,
+        Ok(_) if fields.len() < FIELD_BYTES => OUT_TOO_SHORT,
+        Ok(read) => {
             put_fields(fields, read);
-            return wire_fields::READ as u32;
+            DONE
         }
-        return OUT_TOO_SHORT;
     }
-    read.code as u32
 }

@@ -1,9 +1,11 @@
 -- What stands at a place of a message, as the code's structs have it.
-use Rattle.std.specs.Prelude.{cond, List, ℕ, ◌-◌, eqb, ltb, length, get_or, take, drop}
-use Rattle.wire_fields.specs.Numbers.{Taken, taken, fault, code_of, number}
+use Rattle.std.specs.Prelude.{List, ℕ, ◌-◌, ◌≤◌, length, take, drop, Result, Ok, Err}
+use Rattle.wire_fields.specs.Numbers.{Fault, Taken, taken, fault, number}
 use Rattle.wire_fields.specs.Fields as Fields
 use Rattle.wire_fields.specs.Fields.{varint, fixed, bytes, field}
 use Rattle.wire_fields.specs.declared.Number.{Number}
+use Rattle.wire_fields.specs.declared.Held.{Held}
+use Rattle.wire_fields.specs.declared.Held.TheVariants.{Varint, Fixed, Bytes}
 use Rattle.wire_fields.specs.declared.Field.{Field}
 
 -- The place behind what was read: the bytes `rest` are the end of the message.
@@ -12,41 +14,63 @@ place_of message rest = length message - length rest
 
 -- ---- numbers
 
--- The byte at a place; behind the end 128, which begins no number of one byte.
-unfoldable pub first_byte : List ℕ → ℕ → ℕ
-first_byte message at = cond (ltb at (length message)) (get_or message at 0) 128
+abbrev pub read_as : ℕ → ℕ → Result Number Fault
+read_as value next = Ok (record { value = value; next = next })
 
-abbrev pub no_number : ℕ → Number
-no_number code = record { code = code; value = 0; next = 0 }
+abbrev pub found_number : List ℕ → Taken ℕ → Result Number Fault
+found_number message (taken value rest) = read_as value (place_of message rest)
+found_number message (fault why) = Err why
 
-abbrev pub found_number : List ℕ → Taken ℕ → Number
-found_number message (taken value rest) = record { code = 0; value = value; next = place_of message rest }
-found_number message (fault why) = no_number (code_of why)
-
-unfoldable pub number_at : List ℕ → ℕ → Number
+unfoldable pub number_at : List ℕ → ℕ → Result Number Fault
 number_at message at = found_number message (number (drop at message))
 
 -- ---- fields
 
-abbrev pub no_field : ℕ → Field
-no_field code = record { code = code; kind = 0; number = 0; value = 0; start = 0; next = 0 }
+abbrev pub ends_at : ℕ → Result ℕ Fault
+ends_at next = Ok next
 
--- Kind 0 is a number, 1 are bytes to be skipped, 2 are bytes from `start` to `next`. What does not apply is 0.
+-- The place behind bytes that are all there.
+abbrev pub found_part : List ℕ → Taken (List ℕ) → Result ℕ Fault
+found_part message (taken held rest) = ends_at (place_of message rest)
+found_part message (fault why) = Err why
+
+-- Of bytes that a field holds the place where they begin; they end where the field does.
 abbrev pub standing : Fields.Field → ℕ → Field
-standing (varint n value) next = record { code = 0; kind = 0; number = n; value = value; start = 0; next = next }
-standing (fixed n) next = record { code = 0; kind = 1; number = n; value = 0; start = 0; next = next }
-standing (bytes n held) next = record { code = 0; kind = 2; number = n; value = 0; start = next - length held; next = next }
+standing (varint n value) next = record { number = n; held = Varint value; next = next }
+standing (fixed n) next = record { number = n; held = Fixed; next = next }
+standing (bytes n held) next = record { number = n; held = Bytes (next - length held); next = next }
 
-abbrev pub found_field : List ℕ → Taken Fields.Field → Field
-found_field message (taken f rest) = standing f (place_of message rest)
-found_field message (fault why) = no_field (code_of why)
+abbrev pub stands_as : Fields.Field → ℕ → Result Field Fault
+stands_as f next = Ok (standing f next)
 
-unfoldable pub field_at : List ℕ → ℕ → Field
+abbrev pub bytes_at : ℕ → ℕ → ℕ → Result Field Fault
+bytes_at number start next = Ok (record { number = number; held = Bytes start; next = next })
+
+abbrev pub found_field : List ℕ → Taken Fields.Field → Result Field Fault
+found_field message (taken f rest) = stands_as f (place_of message rest)
+found_field message (fault why) = Err why
+
+unfoldable pub field_at : List ℕ → ℕ → Result Field Fault
 field_at message at = found_field message (field (drop at message))
 
+-- The bytes of the message from one place to another.
+abbrev pub between : List ℕ → ℕ → ℕ → List ℕ
+between message start next = take (next - start) (drop start message)
+
+abbrev pub field_with : List ℕ → ℕ → ℕ → Held → Fields.Field
+field_with message number next (Varint value) = varint number value
+field_with message number next Fixed = fixed number
+field_with message number next (Bytes start) = bytes number (between message start next)
+
+-- Its bytes begin no later than it ends, and it ends within the message.
+abbrev pub ends_in_order : Held → ℕ → Type 0
+ends_in_order (Varint value) next = Unit
+ends_in_order Fixed next = Unit
+ends_in_order (Bytes start) next = start ≤ next
+
+abbrev pub Within : List ℕ → Field → Type 0
+Within message r = ends_in_order r.held r.next × (r.next ≤ length message)
+
 -- The field of the wire format that such a struct stands for.
-unfoldable pub field_of : List ℕ → Field → Fields.Field
-field_of message r =
-    cond (eqb r.kind 0) (varint r.number r.value)
-    (cond (eqb r.kind 1) (fixed r.number)
-    (bytes r.number (take (r.next - r.start) (drop r.start message))))
+abbrev pub field_of : List ℕ → Field → Fields.Field
+field_of message r = field_with message r.number r.next r.held

@@ -1,12 +1,21 @@
 -- What is read at the front of bytes does not depend on those behind it. Assumes nothing.
-use Rattle.std.specs.Prelude.{◌≡◌, refl, Bool, true, false, cond, List, [], ◌∷◌, ◌++◌, ℕ, zero, suc, ◌+◌, ◌*◌, ◌%◌, ◌/◌, ◌<◌, ◌≤◌, leb, ltb, eqb, length, take, drop}
+use Rattle.std.specs.Prelude.{◌≡◌, refl, Bool, true, false, cond, List, [], ◌∷◌, ◌++◌, ℕ, zero, suc, ◌+◌, ◌*◌, ◌%◌, ◌/◌, ◌<◌, ◌≤◌, leb, ltb, eqb, length, take, drop, Result, Ok, Err}
 use Rattle.std.proofs.Common.{sym, ap, ◌∙◌, arith, length-append, length-drop, take-append-drop, drop-drop, leb-true, le-leb}
 use Rattle.std.proofs.lemmas.List.{take-append-le, drop-append-le}
-use Rattle.wire_fields.specs.Numbers.{Fault, Taken, taken, fault, cut_short, too_large, bad_tag, after, number_in, number}
+use Rattle.wire_fields.specs.Numbers.{Fault, Taken, taken, fault, CutShort, TooLarge, BadTag, after, number_in, number}
 use Rattle.wire_fields.specs.Fields.{Field, varint, fixed, bytes, part, part_as, content, is_number, tagged, field}
 
 pub no-fault : {A : Type 0} {why : Fault} {a : A} {rest : List ℕ} → fault why ≡ taken a rest → ⊥
 no-fault e = let z : ◌≡◌ {A = ℕ} 0 1 = cc in omega arith
+
+pub no-ok : {A E : Type 0} {a : A} {e : E} → ◌≡◌ {A = Result A E} (Ok a) (Err e) → ⊥
+no-ok p = let z : ◌≡◌ {A = ℕ} 0 1 = cc in omega arith
+
+pub same-ok : {A E : Type 0} {a b : A} → ◌≡◌ {A = Result A E} (Ok a) (Ok b) → a ≡ b
+same-ok p = cc
+
+pub same-err : {A E : Type 0} {e f : E} → ◌≡◌ {A = Result A E} (Err e) (Err f) → e ≡ f
+same-err p = cc
 
 -- The bytes behind what was read are the end of all.
 pub record Behind (l rest : List ℕ) : Type 0 where
@@ -77,13 +86,13 @@ module _ {A : Type 0} (R : List ℕ → Taken A) {why : Fault} (none : R [] ≡ 
 
 -- ---- numbers
 
-number-none : (more : ℕ) → number_in more [] ≡ fault cut_short
+number-none : (more : ℕ) → number_in more [] ≡ fault CutShort
 unfolding number_in
 number-none more = refl
 
 number-byte : (more b : ℕ) → Reader (λ l. number_in more (b ∷ l))
 unfolding number_in
-number-byte zero b = reads-either (leb b 1) (reads_nothing b) (reads-fault too_large)
+number-byte zero b = reads-either (leb b 1) (reads_nothing b) (reads-fault TooLarge)
 number-byte (suc more) b = reads-either (ltb b 128) (reads_nothing b) (reads-after (reads_byte (number_in more) (number-none more) (number-byte more)) (λ high. reads_nothing (b % 128 + 128 * high)))
 
 pub reads-number : Reader number
@@ -98,11 +107,11 @@ reads-part : (n : ℕ) → Reader (part n)
 unfolding part
 reads-part n = record { behind = λ l a rest e. first l a rest (leb n (length l)) refl e; longer = λ l y a rest e. second l y a rest (leb n (length l)) refl e }
   where
-    first : (l a rest : List ℕ) (b : Bool) → leb n (length l) ≡ b → cond b (taken (take n l) (drop n l)) (fault cut_short) ≡ taken a rest → Behind l rest
+    first : (l a rest : List ℕ) (b : Bool) → leb n (length l) ≡ b → cond b (taken (take n l) (drop n l)) (fault CutShort) ≡ taken a rest → Behind l rest
     first l a rest true h e = record { used = n; inside = leb-true _ _ h; same = cc }
     first l a rest false h e = absurd (no-fault e)
 
-    second : (l y a rest : List ℕ) (b : Bool) → leb n (length l) ≡ b → cond b (taken (take n l) (drop n l)) (fault cut_short) ≡ taken a rest → part n (l ++ y) ≡ taken a (rest ++ y)
+    second : (l y a rest : List ℕ) (b : Bool) → leb n (length l) ≡ b → cond b (taken (take n l) (drop n l)) (fault CutShort) ≡ taken a rest → part n (l ++ y) ≡ taken a (rest ++ y)
     second l y a rest true h e =
         let k = leb-true n (length l) h in
         let long = length-append l y in
@@ -115,11 +124,11 @@ reads-content wire n =
     reads-either (eqb wire 0) (reads-after reads-number (λ value. reads_nothing (varint n value)))
     (reads-either (eqb wire 1) (reads-after (reads-part 8) (λ skipped. reads_nothing (fixed n)))
     (reads-either (eqb wire 2) (reads-after reads-number (λ size. reads-after (reads-part size) (λ held. reads_nothing (bytes n held))))
-    (reads-either (eqb wire 5) (reads-after (reads-part 4) (λ skipped. reads_nothing (fixed n))) (reads-fault bad_tag))))
+    (reads-either (eqb wire 5) (reads-after (reads-part 4) (λ skipped. reads_nothing (fixed n))) (reads-fault BadTag))))
 
 reads-tagged : (tag : ℕ) → Reader (tagged tag)
 unfolding tagged
-reads-tagged tag = reads-either (is_number (tag / 8)) (reads-content (tag % 8) (tag / 8)) (reads-fault bad_tag)
+reads-tagged tag = reads-either (is_number (tag / 8)) (reads-content (tag % 8) (tag / 8)) (reads-fault BadTag)
 
 pub reads-field : Reader field
 unfolding field
@@ -167,7 +176,7 @@ holds-part : (n size : ℕ) → Holding (part_as n size)
 unfolding part
 holds-part n size = record { before = λ l k held rest e. go l k held rest (leb size (length l)) e }
   where
-    go : (l : List ℕ) (k : ℕ) (held rest : List ℕ) (b : Bool) → after (cond b (taken (take size l) (drop size l)) (fault cut_short)) (λ held rest. taken (bytes n held) rest) ≡ taken (bytes k held) rest
+    go : (l : List ℕ) (k : ℕ) (held rest : List ℕ) (b : Bool) → after (cond b (taken (take size l) (drop size l)) (fault CutShort)) (λ held rest. taken (bytes n held) rest) ≡ taken (bytes k held) rest
         → Behind l (held ++ rest)
     go l k held rest true e =
         let front : take size l ≡ held = cc in
@@ -181,11 +190,11 @@ holds-content wire n =
     holds-either (eqb wire 0) (holds_after reads-number (holds-varint n))
     (holds-either (eqb wire 1) (holds_after (reads-part 8) (λ skipped. holds-fixed n))
     (holds-either (eqb wire 2) (holds_after reads-number (holds-part n))
-    (holds-either (eqb wire 5) (holds_after (reads-part 4) (λ skipped. holds-fixed n)) (holds-fault bad_tag))))
+    (holds-either (eqb wire 5) (holds_after (reads-part 4) (λ skipped. holds-fixed n)) (holds-fault BadTag))))
 
 holds-tagged : (tag : ℕ) → Holding (tagged tag)
 unfolding tagged
-holds-tagged tag = holds-either (is_number (tag / 8)) (holds-content (tag % 8) (tag / 8)) (holds-fault bad_tag)
+holds-tagged tag = holds-either (is_number (tag / 8)) (holds-content (tag % 8) (tag / 8)) (holds-fault BadTag)
 
 pub holds-field : Holding field
 unfolding field

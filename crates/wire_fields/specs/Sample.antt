@@ -1,6 +1,6 @@
 -- Numbers and fields in bytes, as protobuf's page on its encoding has them, and each fault. Assumes nothing.
 use Rattle.std.specs.Prelude.{◌≡◌, refl, [], ◌∷◌, ◌-◌, ◌^◌}
-use Rattle.wire_fields.specs.Numbers.{taken, fault, cut_short, too_large, bad_tag, number_in, number}
+use Rattle.wire_fields.specs.Numbers.{taken, fault, CutShort, TooLarge, BadTag, number_in, number}
 use Rattle.wire_fields.specs.Fields.{varint, fixed, bytes, part, content, tagged, field}
 
 -- 150 is 96 01
@@ -17,15 +17,15 @@ pub largest : number (255 ∷ 255 ∷ 255 ∷ 255 ∷ 255 ∷ 255 ∷ 255 ∷ 25
 unfolding number_in
 largest = refl
 
-pub tenth-byte-two : number (128 ∷ 128 ∷ 128 ∷ 128 ∷ 128 ∷ 128 ∷ 128 ∷ 128 ∷ 128 ∷ 2 ∷ []) ≡ fault too_large
+pub tenth-byte-two : number (128 ∷ 128 ∷ 128 ∷ 128 ∷ 128 ∷ 128 ∷ 128 ∷ 128 ∷ 128 ∷ 2 ∷ []) ≡ fault TooLarge
 unfolding number_in
 tenth-byte-two = refl
 
-pub eleventh-byte : number (128 ∷ 128 ∷ 128 ∷ 128 ∷ 128 ∷ 128 ∷ 128 ∷ 128 ∷ 128 ∷ 128 ∷ 0 ∷ []) ≡ fault too_large
+pub eleventh-byte : number (128 ∷ 128 ∷ 128 ∷ 128 ∷ 128 ∷ 128 ∷ 128 ∷ 128 ∷ 128 ∷ 128 ∷ 0 ∷ []) ≡ fault TooLarge
 unfolding number_in
 eleventh-byte = refl
 
-pub unfinished : number (150 ∷ []) ≡ fault cut_short
+pub unfinished : number (150 ∷ []) ≡ fault CutShort
 unfolding number_in
 unfinished = refl
 
@@ -43,16 +43,16 @@ pub four_bytes : field (45 ∷ 1 ∷ 2 ∷ 3 ∷ 4 ∷ 5 ∷ []) ≡ taken (fixe
 unfolding field tagged content part number_in
 four_bytes = refl
 
-pub past_the_end : field (18 ∷ 2 ∷ 97 ∷ []) ≡ fault cut_short
+pub past_the_end : field (18 ∷ 2 ∷ 97 ∷ []) ≡ fault CutShort
 unfolding field tagged content part number_in
 past_the_end = refl
 
 -- The start of a group is refused at its tag, whatever stands behind it.
-pub group : field (11 ∷ []) ≡ fault bad_tag
+pub group : field (11 ∷ []) ≡ fault BadTag
 unfolding field tagged content part number_in
 group = refl
 
-pub number-zero : field (0 ∷ []) ≡ fault bad_tag
+pub number-zero : field (0 ∷ []) ≡ fault BadTag
 unfolding field tagged content part number_in
 number-zero = refl
 
@@ -61,6 +61,6 @@ pub last-number : field (248 ∷ 255 ∷ 255 ∷ 255 ∷ 15 ∷ 1 ∷ []) ≡ ta
 unfolding field tagged content part number_in
 last-number = refl
 
-pub number-above : field (128 ∷ 128 ∷ 128 ∷ 128 ∷ 16 ∷ 1 ∷ []) ≡ fault bad_tag
+pub number-above : field (128 ∷ 128 ∷ 128 ∷ 128 ∷ 16 ∷ 1 ∷ []) ≡ fault BadTag
 unfolding field tagged content part number_in
 number-above = refl

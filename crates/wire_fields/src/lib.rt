@@ -2,40 +2,40 @@
 #![tactic(auto)]
 
 ghost use Rattle.std.specs.Prelude.{◌≡◌, ◌*◌, ◌%◌, ◌^◌, ◌<◌, ◌≤◌, length, drop};
+ghost use Rattle.wire_fields.specs.Fields.{as_varint, as_fixed, as_bytes, content, part, tagged};
 ghost use Rattle.wire_fields.specs.Groups.{joined};
-ghost use Rattle.wire_fields.specs.Places.{first_byte, no_number, number_at, no_field, found_field, field_at};
-ghost use Rattle.wire_fields.specs.Fields.{as_varint, as_fixed, part_as, as_bytes, content, tagged};
+ghost use Rattle.wire_fields.specs.Numbers.{code_of};
+ghost use Rattle.wire_fields.specs.Places.{number_at, found_part, found_field, field_at};
 
-// Nothing is wrong.
-pub const READ: u8 = 0;
-// The message ends too early, or a length reaches past the message that it stands in.
-pub const CUT_SHORT: u8 = 13;
-// The tenth byte of a number is above 1.
-pub const TOO_LARGE: u8 = 14;
-// A wire type that is not 0, 1, 2 or 5, or a field number that is 0 or above 536,870,911.
-pub const BAD_TAG: u8 = 15;
+// Why bytes cannot be read. Programs print the number, and hosts are told it.
+#[derive(Clone, Copy, PartialEq, Eq)]
+pub enum Fault {
+    // The message ends too early, or a length reaches past the message that it stands in.
+    CutShort = 13,
+    // The tenth byte of a number is above 1.
+    TooLarge = 14,
+    // A wire type that is not 0, 1, 2 or 5, or a field number that is 0 or above 536,870,911.
+    BadTag = 15,
+}
 
-// Where the tenth group of seven bits stands.
-const LAST_SHIFT: u64 = 63;
+impl Fault {
+    pub fn number(self) -> u8
+        ensures { result ≡ code_of self }
+    {
+        self as u8
+    }
+}
+
+// The tenth group of seven bits, which has room for one bit.
+const LAST_GROUP: usize = 9;
 
 // ---- numbers
 
-// What stands at a place: the number and the place behind it. Both are 0 beside a fault.
+// What stands at a place: the number and the place behind it.
 #[derive(Clone, Copy)]
 pub struct Number {
-    pub code: u8,
     pub value: u64,
     pub next: usize,
-}
-
-fn no_number(code: u8) -> Number
-    ensures { result ≡ no_number code }
-{
-    Number {
-        code: code,
-        value: 0,
-        next: 0,
-    }
 }
 
 // The low seven bits of a byte, put above the first `shift` bits.
@@ -46,165 +46,111 @@ fn with_group(value: u64, byte: u64, shift: u64) -> u64
     value | (byte & 0x7F) << shift
 }
 
-// The number at a place, by groups of seven bits. Its tenth byte has room for one bit.
-pub fn read_number(message: &[u8], at: usize) -> Number
+// The number at a place, by groups of seven bits.
+fn read_groups(message: &[u8], at: usize) -> Result<Number, Fault>
+    requires { at ≤ length message.now }
     ensures { result ≡ number_at message.now at }
 {
     let mut value: u64 = 0;
-    let mut shift: u64 = 0;
-    let mut next = at;
-    while next < message.len() {
-        let byte = message[next] as u64;
-        if shift == LAST_SHIFT {
-            if 1 < byte {
-                return no_number(TOO_LARGE);
-            }
-            return Number {
-                code: READ,
-                value: with_group(value, byte, shift),
-                next: next + 1,
-            };
+    for (i, &byte) in message[at..].iter().enumerate() {
+        let byte = byte as u64;
+        if i == LAST_GROUP && 1 < byte {
+            return Err(Fault::TooLarge);
         }
-        value = with_group(value, byte, shift);
-        next += 1;
+        value = with_group(value, byte, 7 * i as u64);
         if byte < 128 {
-            return Number {
-                code: READ,
-                value: value,
-                next: next,
-            };
+            return Ok(Number {
+                value,
+                next: at + i + 1,
+            });
         }
-        shift += 7;
     }
-    no_number(CUT_SHORT)
+    Err(Fault::CutShort)
 }
 
-// The byte at a place, and 128 behind the end. Below 128 it is the whole number that stands there, as most numbers are.
-pub fn first_byte(message: &[u8], at: usize) -> u64
-    ensures { result ≡ first_byte message.now at }
+// The number at a place. Most are of one byte, which is looked at first.
+pub fn read_number(message: &[u8], at: usize) -> Result<Number, Fault>
+    ensures { result ≡ number_at message.now at }
 {
-    if at < message.len() {
-        return message[at] as u64;
+    match message.get(at) {
+        Some(&byte) if byte < 128 => Ok(Number {
+            value: byte as u64,
+            next: at + 1,
+        }),
+        Some(_) => read_groups(message, at),
+        None => Err(Fault::CutShort),
     }
-    128
 }
 
 // ---- fields
 
-// What a field holds: a number, four or eight bytes, or as many bytes as its length says.
-pub const VARINT: u8 = 0;
+// What a field holds: a number, four or eight bytes, or as many bytes as its length says, of which it has the place where they begin.
+#[derive(Clone, Copy)]
+pub enum Held {
+    Varint(u64),
+    Fixed,
+    Bytes(usize),
+}
 
-pub const FIXED: u8 = 1;
-
-pub const BYTES: u8 = 2;
-
-const LAST_NUMBER: u64 = 536870911;
-
-// The field at a place: its number, its value if it holds a number, the place of its bytes if it holds bytes, and the place behind it. What does
-// not apply is 0, and all is 0 beside a fault.
+// The field at a place: its number, what it holds, and the place behind it. Bytes that it holds end there.
 #[derive(Clone, Copy)]
 pub struct Field {
-    pub code: u8,
-    pub kind: u8,
     pub number: u64,
-    pub value: u64,
-    pub start: usize,
+    pub held: Held,
     pub next: usize,
 }
 
-fn no_field(code: u8) -> Field
-    ensures { result ≡ no_field code }
-{
-    Field {
-        code: code,
-        kind: VARINT,
-        number: 0,
-        value: 0,
-        start: 0,
-        next: 0,
-    }
-}
+const LAST_NUMBER: u64 = 536870911;
 
 // ---- what stands behind a tag, by its wire type
 
-pub fn read_varint(message: &[u8], at: usize, number: u64) -> Field
+pub fn read_varint(message: &[u8], at: usize, number: u64) -> Result<Field, Fault>
     ensures { result ≡ found_field message.now (as_varint number (drop at message.now)) }
 {
-    let byte = first_byte(message, at);
-    if byte < 128 {
-        return Field {
-            code: READ,
-            kind: VARINT,
-            number: number,
-            value: byte,
-            start: 0,
-            next: at + 1,
-        };
-    }
-    let read = read_number(message, at);
-    if read.code == READ {
-        return Field {
-            code: READ,
-            kind: VARINT,
-            number: number,
-            value: read.value,
-            start: 0,
-            next: read.next,
-        };
-    }
-    no_field(read.code)
+    let read = read_number(message, at)?;
+    Ok(Field {
+        number,
+        held: Held::Varint(read.value),
+        next: read.next,
+    })
 }
 
-fn skip_fixed(message: &[u8], at: usize, number: u64, size: usize) -> Field
+// The place behind so many bytes.
+fn behind(message: &[u8], at: usize, size: u64) -> Result<usize, Fault>
+    requires { at ≤ length message.now }
+    ensures { result ≡ found_part message.now (part size (drop at message.now)) }
+{
+    if size <= (message.len() - at) as u64 {
+        return Ok(at + size as usize);
+    }
+    Err(Fault::CutShort)
+}
+
+fn skip_fixed(message: &[u8], at: usize, number: u64, size: u64) -> Result<Field, Fault>
     requires { at ≤ length message.now }
     ensures { result ≡ found_field message.now (as_fixed size number (drop at message.now)) }
 {
-    if size <= message.len() - at {
-        return Field {
-            code: READ,
-            kind: FIXED,
-            number: number,
-            value: 0,
-            start: 0,
-            next: at + size,
-        };
-    }
-    no_field(CUT_SHORT)
+    let next = behind(message, at, size)?;
+    Ok(Field {
+        number,
+        held: Held::Fixed,
+        next,
+    })
 }
 
-// The bytes behind a length that has been read.
-fn read_part(message: &[u8], at: usize, number: u64, size: u64) -> Field
-    requires { at ≤ length message.now }
-    ensures { result ≡ found_field message.now (part_as number size (drop at message.now)) }
-{
-    if size <= (message.len() - at) as u64 {
-        return Field {
-            code: READ,
-            kind: BYTES,
-            number: number,
-            value: 0,
-            start: at,
-            next: at + size as usize,
-        };
-    }
-    no_field(CUT_SHORT)
-}
-
-pub fn read_bytes(message: &[u8], at: usize, number: u64) -> Field
+pub fn read_bytes(message: &[u8], at: usize, number: u64) -> Result<Field, Fault>
     ensures { result ≡ found_field message.now (as_bytes number (drop at message.now)) }
 {
-    let byte = first_byte(message, at);
-    if byte < 128 {
-        return read_part(message, at + 1, number, byte);
-    }
-    let size = read_number(message, at);
-    if size.code == READ {
-        return read_part(message, size.next, number, size.value);
-    }
-    no_field(size.code)
+    let size = read_number(message, at)?;
+    let next = behind(message, size.next, size.value)?;
+    Ok(Field {
+        number,
+        held: Held::Bytes(size.next),
+        next,
+    })
 }
 
-fn read_content(message: &[u8], at: usize, wire: u64, number: u64) -> Field
+fn read_content(message: &[u8], at: usize, wire: u64, number: u64) -> Result<Field, Fault>
     requires { at ≤ length message.now }
     ensures { result ≡ found_field message.now (content wire number (drop at message.now)) }
 {
@@ -213,32 +159,29 @@ fn read_content(message: &[u8], at: usize, wire: u64, number: u64) -> Field
         1 => skip_fixed(message, at, number, 8),
         2 => read_bytes(message, at, number),
         5 => skip_fixed(message, at, number, 4),
-        _ => no_field(BAD_TAG),
+        _ => Err(Fault::BadTag),
     }
 }
 
 // The field whose tag stands before the place.
-fn read_tagged(message: &[u8], at: usize, tag: u64) -> Field
+fn read_tagged(message: &[u8], at: usize, tag: u64) -> Result<Field, Fault>
     requires { at ≤ length message.now }
     ensures { result ≡ found_field message.now (tagged tag (drop at message.now)) }
 {
     let number = tag >> 3;
     if number < 1 {
-        return no_field(BAD_TAG);
+        return Err(Fault::BadTag);
     }
     if LAST_NUMBER < number {
-        return no_field(BAD_TAG);
+        return Err(Fault::BadTag);
     }
     read_content(message, at, tag & 7, number)
 }
 
 // The field at a place. Who has seen its tag calls `read_varint` or `read_bytes` instead.
-pub fn read_field(message: &[u8], at: usize) -> Field
+pub fn read_field(message: &[u8], at: usize) -> Result<Field, Fault>
     ensures { result ≡ field_at message.now at }
 {
-    let tag = read_number(message, at);
-    if tag.code == READ {
-        return read_tagged(message, tag.next, tag.value);
-    }
-    no_field(tag.code)
+    let tag = read_number(message, at)?;
+    read_tagged(message, tag.next, tag.value)
 }

@@ -1,11 +1,17 @@
 -- The frames of a gRPC stream, one direction of it: what stands at the front of bytes.
-use Rattle.std.specs.Prelude.{Bool, cond, not, ◌&&◌, ◌||◌, List, ℕ, ◌+◌, ◌*◌, eqb, leb, ltb, length, get_or, take, drop}
+use Rattle.std.specs.Prelude.{Bool, true, false, cond, not, ◌&&◌, ◌||◌, List, ℕ, ◌+◌, ◌*◌, eqb, leb, length, get_or, take, drop, Result, Ok, Err}
 use Rattle.wire_fields.specs.Numbers.{code_of}
-use Rattle.wire_fields.specs.Messages.{Reading, whole, broken}
+use Rattle.wire_fields.specs.Messages.{Reading, mapped}
+use Rattle.wire_fields.specs.declared.Fault.{Fault}
 use Rattle.wire_arbitration.specs.Update.{reading}
-use Rattle.wire_arbitration.specs.Seen.{seen, refused_raw, raw_of}
+use Rattle.wire_arbitration.specs.Seen.{seen, raw_of}
+use Rattle.wire_arbitration.specs.Raw.{nothing_said}
 use Rattle.wire_arbitration.specs.declared.Raw.{Raw}
 use Rattle.wire_frames.specs.Stream.{Carried, nothing, arbitration, other, carried}
+use Rattle.wire_frames.specs.declared.Refusal.{Refusal}
+use Rattle.wire_frames.specs.declared.Refusal.TheVariants.{CutShort, Compressed, Message, Reader}
+use Rattle.wire_frames.specs.declared.Carried.{Carried as Kept}
+use Rattle.wire_frames.specs.declared.Carried.TheVariants.{Nothing, Arbitration, Other}
 use Rattle.wire_frames.specs.declared.Frame.{Frame}
 
 -- A frame is a flag, a length of four bytes with the greatest first, and as many bytes.
@@ -42,38 +48,72 @@ frame_cut_short = 21
 abbrev pub frame_compressed : ℕ
 frame_compressed = 22
 
--- Beside a refusal stands nothing.
-abbrev pub refused : ℕ → Frame
-refused code = record { code = code; kind = 0; size = 0; fields = refused_raw 0 }
+-- The number of each refusal, as programs print it and hosts are told it.
+abbrev pub refusal_number : Refusal → ℕ
+refusal_number CutShort = frame_cut_short
+refusal_number Compressed = frame_compressed
+refusal_number (Message why) = code_of why
+refusal_number (Reader number) = number
 
--- Kind 0 is a message that carries nothing, and any other the alternative's field number. The fields are those of the arbitration message, if it carries one.
-abbrev pub frame_with : ℕ → Carried → Frame
-frame_with size nothing = record { code = 0; kind = 0; size = size; fields = refused_raw 0 }
-frame_with size (arbitration u) = record { code = 0; kind = 1; size = size; fields = seen u }
-frame_with size (other k) = record { code = 0; kind = k; size = size; fields = refused_raw 0 }
+-- What the code has of what a message carries: of an arbitration message its fields.
+abbrev pub carried_as : Carried → Kept
+carried_as nothing = Nothing
+carried_as (arbitration u) = Arbitration (seen u)
+carried_as (other k) = Other k
 
-abbrev pub message_of : ℕ → Reading Carried → Frame
-message_of size (whole c) = frame_with size c
-message_of size (broken why) = refused (code_of why)
+-- Kind 0 is a message that carries nothing, and any other the alternative's field number.
+abbrev pub kind_of : Kept → ℕ
+kind_of Nothing = 0
+kind_of (Arbitration r) = 1
+kind_of (Other k) = k
 
-abbrev pub frame_of : Framed → Frame
-frame_of (frame held) = message_of (head_length + length held) (carried held)
-frame_of cut_short = refused frame_cut_short
-frame_of compressed = refused frame_compressed
+-- The fields are those of the arbitration message, if it carries one.
+abbrev pub fields_of : Kept → Raw
+fields_of Nothing = nothing_said
+fields_of (Arbitration r) = r
+fields_of (Other k) = nothing_said
+
+abbrev pub message_of : Reading Carried → Result Kept Fault
+message_of r = mapped carried_as r
+
+abbrev pub sized : ℕ → Result Kept Fault → Result Frame Refusal
+sized size (Ok c) = Ok (record { size = size; carried = c })
+sized size (Err why) = Err (Message why)
+
+abbrev pub frame_of : Framed → Result Frame Refusal
+frame_of (frame held) = sized (head_length + length held) (message_of (carried held))
+frame_of cut_short = Err CutShort
+frame_of compressed = Err Compressed
 
 -- The frame at the front of bytes; its size is with its head.
-unfoldable pub frame_at : List ℕ → Frame
+unfoldable pub frame_at : List ℕ → Result Frame Refusal
 frame_at l = frame_of (framed l)
 
 -- ---- bytes that are taken for an arbitration message and are none
 
-abbrev pub says_nothing : Raw → Bool
-says_nothing r = not r.role && not r.election && not r.status && eqb r.device 0
+-- Neither cut short nor compressed, nor refused by a program that reads frames.
+abbrev pub is_frame : Result Frame Refusal → Bool
+is_frame (Ok f) = true
+is_frame (Err CutShort) = false
+is_frame (Err Compressed) = false
+is_frame (Err (Message why)) = true
+is_frame (Err (Reader number)) = false
+
+abbrev pub is_arbitration : Result Kept Fault → Bool
+is_arbitration (Ok Nothing) = false
+is_arbitration (Ok (Arbitration r)) = true
+is_arbitration (Ok (Other k)) = false
+is_arbitration (Err why) = false
+
+-- Beside a fault nothing is said.
+abbrev pub says_nothing : Result Raw Fault → Bool
+says_nothing (Ok r) = not r.role && not r.election && not r.status && eqb r.device 0
+says_nothing (Err why) = true
 
 -- By the frame at their front, by the stream message that they are, and by the arbitration message that they are taken for.
-abbrev pub streamed : Frame → Frame → Raw → Bool
-streamed first all said = ltb first.code frame_cut_short || (eqb all.kind 1 && says_nothing said)
+abbrev pub streamed : Result Frame Refusal → Result Kept Fault → Result Raw Fault → Bool
+streamed first all said = is_frame first || (is_arbitration all && says_nothing said)
 
 -- A frame that is neither cut short nor compressed; or a stream message that carries an arbitration message and says nothing if it is taken for one.
 unfoldable pub looks_streamed : List ℕ → Bool
-looks_streamed l = streamed (frame_at l) (message_of 0 (carried l)) (raw_of (reading l))
+looks_streamed l = streamed (frame_at l) (message_of (carried l)) (raw_of (reading l))

@@ -2,9 +2,9 @@
 --   request:  arbitration = 1, packet = 2, digest_ack = 3, other = 4;
 --   response: arbitration = 1, packet = 2, digest = 3, idle_timeout_notification = 4, other = 5.
 -- Bytes alone do not say which of the two they are. They are read as a response, which has the alternatives of a request and one more.
-use Rattle.std.specs.Prelude.{Bool, cond, ◌&&◌, List, ℕ, eqb, leb}
+use Rattle.std.specs.Prelude.{Bool, cond, ◌&&◌, List, ℕ, eqb, leb, Ok}
 use Rattle.wire_fields.specs.Fields.{Field, varint, fixed, bytes}
-use Rattle.wire_fields.specs.Messages.{Reading, whole, mapped, message}
+use Rattle.wire_fields.specs.Messages.{Reading, mapped, message}
 use Rattle.wire_arbitration.specs.Update as Update
 
 -- Which alternative a message carries, by its field number; of an arbitration message what it says. What the others hold is not looked into.
@@ -24,9 +24,9 @@ known (other k) = Update.nothing
 
 -- What a field makes of what those before it have given: the last alternative counts.
 abbrev pub took : Field → Carried → Reading Carried
-took (varint k value) c = whole c
-took (fixed k) c = whole c
-took (bytes k held) c = cond (eqb k 1) (mapped arbitration (message Update.took (known c) held)) (whole (cond (is_other k) (other k) c))
+took (varint k value) c = Ok c
+took (fixed k) c = Ok c
+took (bytes k held) c = cond (eqb k 1) (mapped arbitration (message Update.took (known c) held)) (Ok (cond (is_other k) (other k) c))
 
 unfoldable pub carried : List ℕ → Reading Carried
 carried l = message took nothing l

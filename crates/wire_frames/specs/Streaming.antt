@@ -1,105 +1,80 @@
 -- What the code keeps of a stream message is what the message carries; `proofs/Streaming` has its arbitration message. Assumes nothing.
-use Rattle.std.specs.Prelude.{◌≡◌, ◌≢◌, Bool, List, ℕ, ◌-◌, ◌≤◌, ◌<◌, length, take, drop}
-use Rattle.std.proofs.Math.Path.{refl, sym, ap}
-use Rattle.std.proofs.Common.{◌∙◌}
-use Rattle.std.proofs.Math.Bool.{true, false}
+use Rattle.std.specs.Prelude.{◌≡◌, refl, List, ℕ, ◌≤◌, ◌<◌, length, Result, Ok, Err}
+use Rattle.std.proofs.Common.{sym, ap, ◌∙◌}
 use native.Mathlib.Omega.{arith}
-use Rattle.std.proofs.Math.Dec.{eqb}
-use borrow.Author.Tests.{eq-eqb, ne_eqb, eqb-false, le-leb, lt-leb}
-use Rattle.wire_fields.specs.Fields.{Field, bytes}
-use Rattle.wire_fields.specs.Messages.{Reading, whole, broken, message}
-use Rattle.wire_fields.specs.Places as Places
-use Rattle.wire_fields.specs.Places.{field_of}
-use Rattle.wire_fields.specs.Found.{FoundField, NoField, some-code}
+use borrow.Author.Tests.{ne_eqb, le-leb, lt-leb}
+use Rattle.wire_fields.specs.Fields.{Field, varint, fixed, bytes}
+use Rattle.wire_fields.specs.Messages.{Reading, message}
+use Rattle.wire_fields.specs.Places.{field_at, field_of}
+use Rattle.wire_fields.specs.Readers.{no-ok, same-ok}
+use Rattle.wire_fields.specs.Found.{FoundField}
 use Rattle.wire_fields.specs.Walking.{Walking, walking-starts, walking-ends, walking-faults, walking_on, walking-breaks}
+use Rattle.wire_fields.specs.declared.Fault.{Fault}
 use Rattle.wire_fields.specs.declared.Field as Placed
-use Rattle.wire_arbitration.specs.Seen.{refused_raw}
-use Rattle.wire_frames.specs.Stream.{Carried, nothing, arbitration, other, took, carried}
-use Rattle.wire_frames.specs.Frames.{refused, frame_with, message_of}
-use Rattle.wire_frames.specs.declared.Frame.{Frame}
+use Rattle.wire_frames.specs.Stream.{Carried, nothing, took, carried}
+use Rattle.wire_frames.specs.Frames.{carried_as, message_of}
+use Rattle.wire_frames.specs.declared.Carried.{Carried as Kept}
+use Rattle.wire_frames.specs.declared.Carried.TheVariants.{Other}
 
 -- What a field makes of what was carried, as the code has both.
-abbrev pub Takes : Field → Frame → Frame → Type 0
-Takes f before after = (c : Carried) → before ≡ frame_with before.size c → after ≡ message_of before.size (took f c)
+abbrev pub Takes : Field → Kept → Result Kept Fault → Type 0
+Takes f before after = (c : Carried) → before ≡ carried_as c → after ≡ message_of (took f c)
 
-frame-with-code : (size : ℕ) (c : Carried) → (frame_with size c).code ≡ 0
-frame-with-code size nothing = refl
-frame-with-code size (arbitration u) = refl
-frame-with-code size (other k) = refl
+kept : (c : Carried) (before : Kept) → before ≡ carried_as c → Ok before ≡ message_of (Ok c)
+kept c before e = ap (λ (k : Kept). Ok k) e
 
--- ---- the field at a place, by its kind and number
+-- ---- a field, by what it holds and its number
 
-abbrev pub held_by : List ℕ → Placed.Field → List ℕ
-held_by l f = take (f.next - f.start) (drop f.start l)
+pub takes-number : (n value : ℕ) (before : Kept) → Takes (varint n value) before (Ok before)
+takes-number n value before c e = kept c before e
 
-module _ (l : List ℕ) (f : Placed.Field) (before : Frame) where
-  pub takes-number : f.kind < 2 → Takes (field_of l f) before before
-  unfolding Places.field_of
-  takes-number small c e = go (eqb f.kind 0) refl
-    where
-      go : (b : Bool) → eqb f.kind 0 ≡ b → before ≡ message_of before.size (took (field_of l f) c)
-      go true h = simp h e
-      go false h = let other = eqb-false f.kind 0 h in let one : f.kind ≡ 1 = omega arith in simp (h, eq-eqb f.kind 1 one) e
+pub takes-fixed : (n : ℕ) (before : Kept) → Takes (fixed n) before (Ok before)
+takes-fixed n before c e = kept c before e
 
-  module _ (is : 2 ≤ f.kind) where
-    pub stands : field_of l f ≡ bytes f.number (held_by l f)
-    unfolding Places.field_of
-    stands = simp (ne_eqb f.kind 0 (λ z. omega arith), ne_eqb f.kind 1 (λ z. omega arith))
+module _ (n : ℕ) (held : List ℕ) (before : Kept) where
+  pub takes-below : n < 1 → Takes (bytes n held) before (Ok before)
+  takes-below small c e = simp (ne_eqb n 1 (λ z. omega arith), lt-leb 2 n (omega arith)) (kept c before e)
 
-    pub takes-below : f.number < 2 → f.number ≢ 1 → Takes (field_of l f) before before
-    takes-below small n c e = rw stands (simp (ne_eqb f.number 1 n, lt-leb 2 f.number small) e)
+  pub takes-beyond : 5 < n → Takes (bytes n held) before (Ok before)
+  takes-beyond large c e = simp (ne_eqb n 1 (λ z. omega arith), le-leb 2 n (omega arith), lt-leb n 5 large) (kept c before e)
 
-    pub takes-beyond : 5 < f.number → Takes (field_of l f) before before
-    takes-beyond large c e = rw stands (simp (ne_eqb f.number 1 (λ z. omega arith), le-leb 2 f.number (omega arith), lt-leb f.number 5 large) e)
-
-    pub takes-other : 2 ≤ f.number → f.number ≤ 5 → Takes (field_of l f) before (record { code = 0; kind = f.number; size = before.size; fields = refused_raw 0 })
-    takes-other low high c e = rw stands (simp (ne_eqb f.number 1 (λ z. omega arith), le-leb 2 f.number low, le-leb f.number 5 high))
+  pub takes-other : 2 ≤ n → n ≤ 5 → Takes (bytes n held) before (Ok (Other n))
+  takes-other low high c e = simp (ne_eqb n 1 (λ z. omega arith), le-leb 2 n low, le-leb n 5 high)
 
 -- ---- the loop over the fields
 
 -- The fields before the place have given what is known.
-pub record Carrying (l : List ℕ) (size : ℕ) (f : Frame) (at : ℕ) : Type 0 where
+pub record Carrying (l : List ℕ) (known : Kept) (at : ℕ) : Type 0 where
   pub c : Carried
-  pub shows : f ≡ frame_with size c
+  pub shows : known ≡ carried_as c
   pub walks : Walking took l nothing c at
 
-frame-with-size : (size : ℕ) (c : Carried) → (frame_with size c).size ≡ size
-frame-with-size size nothing = refl
-frame-with-size size (arbitration u) = refl
-frame-with-size size (other k) = refl
-
-module _ (l : List ℕ) (size : ℕ) where
-  pub carrying-starts : Carrying l size (frame_with size nothing) 0
+module _ (l : List ℕ) where
+  pub carrying-starts : Carrying l (carried_as nothing) 0
   carrying-starts = record { c = nothing; shows = refl; walks = walking-starts took l nothing }
 
-  module _ {f : Frame} {at : ℕ} (w : Carrying l size f at) where
-    pub carrying-ends : length l ≤ at → f ≡ message_of size (carried l)
+  module _ {known : Kept} {at : ℕ} (w : Carrying l known at) where
+    pub carrying-ends : length l ≤ at → Ok known ≡ message_of (carried l)
     unfolding carried
-    carrying-ends h = w.shows ∙ ap (message_of size) (sym (walking-ends took l nothing w.walks h))
+    carrying-ends h = kept w.c known w.shows ∙ ap message_of (sym (walking-ends took l nothing w.walks h))
 
-    module _ (more : at < length l) (r : Placed.Field) where
-      pub carrying-faults : NoField l at r → refused r.code ≡ message_of size (carried l)
+    module _ (more : at < length l) where
+      pub carrying-faults : (why : Fault) → field_at l at ≡ Err why → Err why ≡ message_of (carried l)
       unfolding carried
-      carrying-faults lost = ap refused (sym lost.code) ∙ ap (message_of size) (sym (walking-faults took l nothing w.walks more r lost))
+      carrying-faults why is = ap message_of (sym (walking-faults took l nothing w.walks more why is))
 
-      module _ (found : FoundField l at r) (g : Frame) (takes : Takes (field_of l r) f g) where
-        same_size : f.size ≡ size
-        same_size = ap (λ (x : Frame). x.size) w.shows ∙ frame-with-size size w.c
-
-        given : g ≡ message_of size (took (field_of l r) w.c)
-        given = takes w.c (w.shows ∙ ap (λ (k : ℕ). frame_with k w.c) (sym same_size)) ∙ ap (λ (k : ℕ). message_of k (took (field_of l r) w.c)) same_size
-
-        pub carrying-on : g.code ≡ 0 → Carrying l size g r.next
-        carrying-on zero = go (took (field_of l r) w.c) refl
+      module _ (r : Placed.Field) (found : FoundField l at r) where
+        pub carrying-on : (after : Kept) → Takes (field_of l r) known (Ok after) → Carrying l after r.next
+        carrying-on after takes = go (took (field_of l r) w.c) refl (takes w.c w.shows)
           where
-            go : (s : Reading Carried) → took (field_of l r) w.c ≡ s → Carrying l size g r.next
-            go (whole d) e = record { c = d; shows = given ∙ ap (message_of size) e; walks = walking_on took l nothing w.walks more r found d e }
-            go (broken why) e = absurd (some-code why (sym (ap (λ (x : Frame). x.code) (given ∙ ap (message_of size) e)) ∙ zero))
+            go : (s : Reading Carried) → took (field_of l r) w.c ≡ s → Ok after ≡ message_of s → Carrying l after r.next
+            go (Ok d) e is = record { c = d; shows = same-ok is; walks = walking_on took l nothing w.walks more r found d e }
+            go (Err why) e is = absurd (no-ok is)
 
-        pub carrying-breaks : g.code ≢ 0 → g ≡ message_of size (carried l)
+        pub carrying-breaks : (why : Fault) → Takes (field_of l r) known (Err why) → Err why ≡ message_of (carried l)
         unfolding carried
-        carrying-breaks some = go (took (field_of l r) w.c) refl
+        carrying-breaks why takes = go (took (field_of l r) w.c) refl (takes w.c w.shows)
           where
-            go : (s : Reading Carried) → took (field_of l r) w.c ≡ s → g ≡ message_of size (message took nothing l)
-            go (whole d) e = absurd (some (ap (λ (x : Frame). x.code) (given ∙ ap (message_of size) e) ∙ frame-with-code size d))
-            go (broken why) e = given ∙ ap (message_of size) (e ∙ sym (walking-breaks took l nothing w.walks more r found why e))
+            go : (s : Reading Carried) → took (field_of l r) w.c ≡ s → Err why ≡ message_of s → Err why ≡ message_of (message took nothing l)
+            go (Ok d) e is = absurd (no-ok (sym is))
+            go (Err other) e is = is ∙ ap message_of (sym (walking-breaks took l nothing w.walks more r found other e))

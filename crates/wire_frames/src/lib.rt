@@ -1,158 +1,190 @@
 // Reads the frames of a captured gRPC stream, and the stream message of p4runtime.proto, release 1.0.0, in each.
 #![tactic(auto)]
 
-ghost use Rattle.std.specs.Prelude.{◌≡◌, ◌≤◌, length};
-ghost use Rattle.wire_fields.specs.Places.{field_of};
+ghost use Rattle.std.specs.Prelude.{◌≡◌};
+ghost use Rattle.wire_fields.specs.Fields.{bytes};
+ghost use Rattle.wire_fields.specs.Places.{Within, field_of};
 ghost use Rattle.wire_frames.specs.Stream.{carried};
-ghost use Rattle.wire_frames.specs.Frames as Frames;
-ghost use Rattle.wire_frames.specs.Frames.{held_length, message_of, frame_at, looks_streamed};
+ghost use Rattle.wire_frames.specs.Frames.{refusal_number, kind_of, fields_of, held_length, message_of, frame_at, is_frame, is_arbitration, says_nothing, looks_streamed};
 ghost use Rattle.wire_frames.specs.Streaming.{Takes};
+ghost use Rattle.wire_frames.specs.declared.Refusal.TheVariants.{Message};
 
 use wire_arbitration::Raw;
-use wire_fields::Field;
+use wire_fields::{Fault, Field, Held};
 
-// The bytes end before the frame does.
-pub const FRAME_CUT_SHORT: u8 = 21;
-// The frame's flag is not 0.
-pub const FRAME_COMPRESSED: u8 = 22;
+// Why a frame is refused.
+#[derive(Clone, Copy, PartialEq, Eq)]
+pub enum Refusal {
+    // The bytes end before the frame does.
+    CutShort,
+    // The frame's flag is not 0.
+    Compressed,
+    // What it holds cannot be read.
+    Message(Fault),
+    // By a program that reads frames, for a reason of its own. It has a number and no name here, since `wire_frames_text::shown` takes any.
+    Reader(u8),
+}
+
+impl Refusal {
+    // What programs print, and hosts are told.
+    pub fn number(self) -> u8
+        ensures { result ≡ refusal_number self }
+    {
+        match self {
+            Refusal::CutShort => 21,
+            Refusal::Compressed => 22,
+            Refusal::Message(fault) => fault.number(),
+            Refusal::Reader(number) => number,
+        }
+    }
+}
+
+impl From<Fault> for Refusal {
+    ghost from_gives = { λ fault refusal. refusal ≡ Message fault };
+
+    fn from(fault: Fault) -> Refusal {
+        Refusal::Message(fault)
+    }
+}
 
 // A flag, and a length of four bytes.
 pub const HEAD: usize = 5;
 
-// What a message carries: nothing, an arbitration message, or the alternative of field 2 to 5.
-pub const NOTHING: u8 = 0;
-
-pub const ARBITRATION: u8 = 1;
-
-const ARBITRATION_FIELD: u64 = 1;
-
-const FIRST_OTHER: u64 = 2;
-
-const LAST_OTHER: u64 = 5;
-
-// What a frame carries: why it is refused, or READ; the alternative; the frame's bytes with its head; and the fields of an arbitration message, if it
-// carries one. What does not apply is 0, and all is 0 beside a refusal.
+// What a message carries: nothing, an arbitration message, or the alternative of another field, by its number.
 #[derive(Clone, Copy)]
-pub struct Frame {
-    pub code: u8,
-    pub kind: u8,
-    pub size: usize,
-    pub fields: Raw,
+pub enum Carried {
+    Nothing,
+    Arbitration(Raw),
+    // By its number, since its name depends on the direction of the stream, which the bytes do not say.
+    Other(u8),
 }
 
-pub fn refused(code: u8) -> Frame
-    ensures { result ≡ Frames.refused code }
+impl Carried {
+    // The number of the alternative's field, 0 if there is none.
+    pub fn kind(self) -> u8
+        ensures { result ≡ kind_of self }
+    {
+        match self {
+            Carried::Nothing => 0,
+            Carried::Arbitration(_) => 1,
+            Carried::Other(number) => number,
+        }
+    }
+
+    // The fields of the arbitration message; without one those that no bytes give.
+    pub fn fields(self) -> Raw
+        ensures { result ≡ fields_of self }
+    {
+        match self {
+            Carried::Arbitration(fields) => fields,
+            _ => wire_arbitration::NOTHING,
+        }
+    }
+}
+
+// A frame: its bytes with its head, and what it carries.
+#[derive(Clone, Copy)]
+pub struct Frame {
+    pub size: usize,
+    pub carried: Carried,
+}
+
+// What a field that holds bytes makes of what was known.
+fn take_alternative(held: &[u8], number: u64, known: Carried) -> Result<Carried, Fault>
+    ensures { Takes (bytes number held.now) known result }
 {
-    let fields = Raw {
-        code: wire_fields::READ,
-        role: false,
-        election: false,
-        status: false,
-        device: 0,
-        id: 0,
-        high: 0,
-        low: 0,
-        error: 0,
-    };
-    Frame {
-        code: code,
-        kind: NOTHING,
-        size: 0,
-        fields: fields,
+    match number {
+        1 => {
+            let fields = wire_arbitration::read_onto(held, known.fields())?;
+            Ok(Carried::Arbitration(fields))
+        }
+        2..=5 => Ok(Carried::Other(number as u8)),
+        _ => Ok(known),
     }
 }
 
 // What the field at a place makes of what was known.
-fn take(message: &[u8], field: Field, known: Frame) -> Frame
-    requires { (field.start ≤ field.next) × (field.next ≤ length message.now) }
+fn take(message: &[u8], field: Field, known: Carried) -> Result<Carried, Fault>
+    requires { Within message.now field }
     ensures { Takes (field_of message.now field) known result }
 {
-    if field.kind < wire_fields::BYTES {
-        return known;
-    }
-    if field.number == ARBITRATION_FIELD {
-        let start = field.start;
-        let end = field.next;
-        let before = known.fields;
-        let fields = wire_arbitration::read_onto(&message[start..end], before);
-        if fields.code != wire_fields::READ {
-            return refused(fields.code);
+    match field.held {
+        Held::Varint(_) | Held::Fixed => Ok(known),
+        Held::Bytes(start) => {
+            let end = field.next;
+            take_alternative(&message[start..end], field.number, known)
         }
-        return Frame {
-            code: wire_fields::READ,
-            kind: ARBITRATION,
-            size: known.size,
-            fields: fields,
-        };
     }
-    if field.number < FIRST_OTHER {
-        return known;
-    }
-    if LAST_OTHER < field.number {
-        return known;
-    }
-    let mut other = refused(wire_fields::READ);
-    other.kind = field.number as u8;
-    other.size = known.size;
-    other
 }
 
-// A stream message, of a frame of so many bytes.
-pub fn read_message(message: &[u8], size: usize) -> Frame
-    ensures { result ≡ message_of size (carried message.now) }
+// A stream message.
+pub fn read_message(message: &[u8]) -> Result<Carried, Fault>
+    ensures { result ≡ message_of (carried message.now) }
 {
-    let mut known = refused(wire_fields::READ);
-    known.size = size;
+    let mut known = Carried::Nothing;
     let mut at = 0;
+    // No `for`: a field says itself where the next one begins.
     while at < message.len() {
-        let field = wire_fields::read_field(message, at);
-        if field.code != wire_fields::READ {
-            return refused(field.code);
-        }
-        known = take(message, field, known);
-        if known.code != wire_fields::READ {
-            return known;
-        }
+        let field = wire_fields::read_field(message, at)?;
+        known = take(message, field, known)?;
         at = field.next;
     }
-    known
+    Ok(known)
 }
 
 // How many bytes the frame holds that begins with these: what its head says, or 0 where the head is not whole or says that they are compressed.
 pub fn held_length(bytes: &[u8]) -> usize
     ensures { result ≡ held_length bytes.now }
 {
-    if bytes.len() < HEAD {
-        return 0;
+    match bytes {
+        [0, a, b, c, d, ..] => u32::from_be_bytes([*a, *b, *c, *d]) as usize,
+        _ => 0,
     }
-    if bytes[0] != 0 {
-        return 0;
-    }
-    let high = bytes[1] as usize * 256 + bytes[2] as usize;
-    let low = bytes[3] as usize * 256 + bytes[4] as usize;
-    high * 65536 + low
 }
 
 // The frame at the front of bytes.
-pub fn read_frame(bytes: &[u8]) -> Frame
+pub fn read_frame(bytes: &[u8]) -> Result<Frame, Refusal>
     ensures { result ≡ frame_at bytes.now }
 {
-    if bytes.len() == 0 {
-        return refused(FRAME_CUT_SHORT);
+    if bytes.is_empty() {
+        return Err(Refusal::CutShort);
     }
     if bytes[0] != 0 {
-        return refused(FRAME_COMPRESSED);
+        return Err(Refusal::Compressed);
     }
     if bytes.len() < HEAD {
-        return refused(FRAME_CUT_SHORT);
+        return Err(Refusal::CutShort);
     }
     let held = held_length(bytes);
     if bytes.len() - HEAD < held {
-        return refused(FRAME_CUT_SHORT);
+        return Err(Refusal::CutShort);
     }
-    let start = HEAD;
-    let end = HEAD + held;
-    read_message(&bytes[start..end], end)
+    let size = HEAD + held;
+    let carried = read_message(&bytes[HEAD..size])?;
+    Ok(Frame { size, carried })
+}
+
+// Neither cut short nor compressed.
+fn is_frame(read: Result<Frame, Refusal>) -> bool
+    ensures { result ≡ is_frame read }
+{
+    matches!(read, Ok(_) | Err(Refusal::Message(_)))
+}
+
+fn is_arbitration(read: Result<Carried, Fault>) -> bool
+    ensures { result ≡ is_arbitration read }
+{
+    matches!(read, Ok(Carried::Arbitration(_)))
+}
+
+// Beside a fault nothing is said.
+fn says_nothing(read: Result<Raw, Fault>) -> bool
+    ensures { result ≡ says_nothing read }
+{
+    match read {
+        Ok(said) => !said.role && !said.election && !said.status && said.device == 0,
+        Err(_) => true,
+    }
 }
 
 // Whether bytes that are taken for an arbitration message look like what a capture has: a frame, or a stream message that carries an arbitration message and
@@ -160,23 +192,7 @@ pub fn read_frame(bytes: &[u8]) -> Frame
 pub fn looks_streamed(message: &[u8]) -> bool
     ensures { result ≡ looks_streamed message.now }
 {
-    let frame = read_frame(message);
-    if frame.code < FRAME_CUT_SHORT {
-        return true;
-    }
-    let carried = read_message(message, 0);
-    if carried.kind != ARBITRATION {
-        return false;
-    }
-    let read = wire_arbitration::read_raw(message);
-    if read.role {
-        return false;
-    }
-    if read.election {
-        return false;
-    }
-    if read.status {
-        return false;
-    }
-    read.device == 0
+    is_frame(read_frame(message))
+        || is_arbitration(read_message(message))
+            && says_nothing(wire_arbitration::read_raw(message))
 }

@@ -1,8 +1,12 @@
 -- What the program `captured` prints: a text for each frame, and a line at the end.
-use Rattle.std.specs.Prelude.{cond, List, [], ◌∷◌, ◌++◌, ℕ, eqb}
+use Rattle.std.specs.Prelude.{cond, List, [], ◌∷◌, ◌++◌, ℕ, eqb, Result, Ok, Err}
 use Rattle.any_text.specs.Decimal.{decimal}
 use Rattle.any_text.specs.Line.{line}
 use Rattle.wire_text.specs.Printout.{field_lines}
+use Rattle.wire_frames.specs.Frames.{refusal_number}
+use Rattle.wire_frames.specs.declared.Refusal.{Refusal}
+use Rattle.wire_frames.specs.declared.Carried.{Carried}
+use Rattle.wire_frames.specs.declared.Carried.TheVariants.{Nothing, Arbitration, Other}
 use Rattle.wire_frames.specs.declared.Frame.{Frame}
 
 -- " nothing" and a newline
@@ -30,16 +34,15 @@ abbrev pub frames_word : List ℕ
 frames_word = 102 ∷ 114 ∷ 97 ∷ 109 ∷ 101 ∷ 115 ∷ []
 
 -- What a frame carries: of an arbitration message the fields, and of an alternative whose name depends on the direction the field number.
-unfoldable pub carried_text : Frame → List ℕ
-carried_text f =
-    cond (eqb f.kind 0) nothing_word
-    (cond (eqb f.kind 1) (arbitration_word ++ field_lines f.fields)
-    (cond (eqb f.kind 2) packet_word
-    (line field_word (f.kind ∷ []))))
+unfoldable pub carried_text : Carried → List ℕ
+carried_text Nothing = nothing_word
+carried_text (Arbitration r) = arbitration_word ++ field_lines r
+carried_text (Other k) = cond (eqb k 2) packet_word (line field_word (k ∷ []))
 
 -- The frame's number and what it carries; or number, offset and refusal.
-unfoldable pub frame_text : ℕ → ℕ → Frame → List ℕ
-frame_text number offset f = cond (eqb f.code 0) (decimal number ++ carried_text f) (line refused_word (number ∷ offset ∷ f.code ∷ []))
+unfoldable pub frame_text : ℕ → ℕ → Result Frame Refusal → List ℕ
+frame_text number offset (Ok f) = decimal number ++ carried_text f.carried
+frame_text number offset (Err why) = line refused_word (number ∷ offset ∷ refusal_number why ∷ [])
 
 -- How many frames were read.
 abbrev pub end_text : ℕ → List ℕ

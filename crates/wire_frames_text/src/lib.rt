@@ -1,46 +1,58 @@
 // What the program `captured` prints for a frame, as one text.
 #![tactic(auto)]
 
-ghost use Rattle.std.specs.Prelude.{◌+◌, ◌≤◌, length};
+ghost use Rattle.std.specs.Prelude.{◌+◌, ◌≤◌, ◌++◌, length};
 ghost use Rattle.any_text.specs.Put.{Put};
-ghost use Rattle.wire_frames_text.specs.Shown.{carried_text, frame_text, end_text};
+ghost use Rattle.wire_text.specs.Printout.{field_lines};
+ghost use Rattle.wire_frames_text.specs.Shown.{arbitration_word, carried_text, frame_text, end_text};
 
-use wire_frames::Frame;
+use wire_arbitration::Raw;
+use wire_frames::{Carried, Frame, Refusal};
 
 // Room for a number, the word `arbitration` and the fields.
 pub const LONGEST_TEXT: usize = 240;
 
-fn put_carried(buf: &mut [u8], at: usize, frame: Frame) -> usize
+fn put_arbitration(buf: &mut [u8], at: usize, fields: Raw) -> usize
     requires { at + 220 ≤ length buf.old }
-    ensures { Put buf.old at (carried_text frame) buf.new result × (result ≤ at + 220) }
+    ensures { Put buf.old at (arbitration_word ++ field_lines fields) buf.new result × (result ≤ at + 220) }
 {
-    let kind = frame.kind;
-    match kind {
-        0 => any_text::put_word(buf, at, b" nothing\n"),
-        1 => {
-            let next = any_text::put_word(buf, at, b" arbitration\n");
-            let fields = frame.fields;
-            wire_text::put_fields(buf, next, fields)
-        }
-        2 => any_text::put_word(buf, at, b" packet\n"),
-        _ => any_text::put_line(buf, at, b" field", &[kind as u64]),
+    let next = any_text::put_word(buf, at, b" arbitration\n");
+    wire_text::put_fields(buf, next, fields)
+}
+
+fn put_carried(buf: &mut [u8], at: usize, carried: Carried) -> usize
+    requires { at + 220 ≤ length buf.old }
+    ensures { Put buf.old at (carried_text carried) buf.new result × (result ≤ at + 220) }
+{
+    match carried {
+        Carried::Nothing => any_text::put_word(buf, at, b" nothing\n"),
+        Carried::Arbitration(fields) => put_arbitration(buf, at, fields),
+        Carried::Other(2) => any_text::put_word(buf, at, b" packet\n"),
+        Carried::Other(number) => any_text::put_line(buf, at, b" field", &[number as u64]),
     }
 }
 
 // Puts the text of a frame at the front of the buffer. Returns how many bytes that is.
-pub fn shown(number: u64, offset: u64, frame: Frame, buf: &mut [u8; LONGEST_TEXT]) -> usize
+pub fn shown(
+    number: u64,
+    offset: u64,
+    frame: Result<Frame, Refusal>,
+    buf: &mut [u8; LONGEST_TEXT],
+) -> usize
     ensures { Put buf.old 0 (frame_text number offset frame) buf.new result × (result ≤ length buf.new) }
 {
-    if frame.code != wire_fields::READ {
-        return any_text::put_line(
+    match frame {
+        Ok(frame) => {
+            let next = any_text::put_wide(buf, 0, number);
+            put_carried(buf, next, frame.carried)
+        }
+        Err(refusal) => any_text::put_line(
             buf,
             0,
             b"refused frame",
-            &[number, offset, frame.code as u64],
-        );
+            &[number, offset, refusal.number() as u64],
+        ),
     }
-    let next = any_text::put_wide(buf, 0, number);
-    put_carried(buf, next, frame)
 }
 
 // Puts how many frames were read.

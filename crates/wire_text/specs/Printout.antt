@@ -1,7 +1,7 @@
 -- What the program `arbitration` prints for a message.
-use Rattle.std.specs.Prelude.{Bool, cond, List, [], ◌∷◌, ◌++◌, ℕ, suc, leb, ℤ, pos, negsuc, length}
+use Rattle.std.specs.Prelude.{Bool, cond, List, [], ◌∷◌, ◌++◌, ℕ, suc, leb, ℤ, pos, negsuc, length, Ok, Err}
 use Rattle.wire_fields.specs.Numbers.{code_of}
-use Rattle.wire_fields.specs.Messages.{Reading, whole, broken}
+use Rattle.wire_fields.specs.Messages.{Reading}
 use Rattle.any_text.specs.Decimal.{decimal}
 use Rattle.any_text.specs.Lines.{newline, refused_line}
 use Rattle.wire_arbitration.specs.Update.{Update, reading}
@@ -85,8 +85,8 @@ field_lines r = number_line device_word r.device ++ role_lines r ++ election_lin
 -- ---- the text
 
 abbrev pub text_of : Reading Update → List ℕ
-text_of (whole u) = field_lines (seen u)
-text_of (broken why) = refused_line (code_of why)
+text_of (Ok u) = field_lines (seen u)
+text_of (Err why) = refused_line (code_of why)
 
 -- The most bytes that the program reads.
 abbrev pub longest_message : ℕ

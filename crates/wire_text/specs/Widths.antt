@@ -1,9 +1,11 @@
 -- How long the text can be, and which text it is. Assumes nothing.
-use Rattle.std.specs.Prelude.{◌≡◌, refl, ◌≢◌, Bool, true, false, List, ℕ, ◌-◌, ◌^◌, ◌<◌, ◌≤◌, length, ltb}
+use Rattle.std.specs.Prelude.{◌≡◌, refl, Bool, true, false, List, ℕ, ◌-◌, ◌^◌, ◌<◌, ◌≤◌, length, ltb, Ok, Err}
 use Rattle.std.proofs.Common.{sym, ap, ◌∙◌, arith, length-append, ltb-true, ltb-false, le-leb}
 use Rattle.std.proofs.lemmas.Bool.{lt-leb}
-use Rattle.wire_fields.specs.Messages.{Reading, whole, broken}
-use Rattle.wire_fields.specs.Found.{some-code}
+use Rattle.wire_fields.specs.Messages.{Reading}
+use Rattle.wire_fields.specs.Numbers.{code_of}
+use Rattle.wire_fields.specs.Readers.{no-ok, same-ok, same-err}
+use Rattle.wire_fields.specs.declared.Fault.{Fault}
 use Rattle.any_text.specs.Lines.{refused_line}
 use Rattle.any_text.specs.Digits.{width}
 use Rattle.wire_arbitration.specs.Update.{Update, reading}
@@ -50,21 +52,21 @@ pub too_long : (message : List ℕ) → longest_message < length message → pri
 unfolding printout
 too_long message h = simp (lt-leb (length message) longest_message h)
 
-module _ (message : List ℕ) (short : length message ≤ longest_message) (r : Raw) (is : r ≡ raw_of (reading message)) where
+module _ (message : List ℕ) (short : length message ≤ longest_message) where
   text-of : printout message ≡ text_of (reading message)
   unfolding printout
   text-of = simp (le-leb (length message) longest_message short)
 
-  pub prints-fields : r.code ≡ 0 → printout message ≡ field_lines r
-  prints-fields good = text-of ∙ go (reading message) is
+  pub prints-fields : (r : Raw) → Ok r ≡ raw_of (reading message) → printout message ≡ field_lines r
+  prints-fields r is = text-of ∙ go (reading message) is
     where
-      go : (s : Reading Update) → r ≡ raw_of s → text_of s ≡ field_lines r
-      go (whole u) e = ap field_lines (sym e)
-      go (broken why) e = absurd (some-code why (sym (ap (λ (x : Raw). x.code) e) ∙ good))
+      go : (s : Reading Update) → Ok r ≡ raw_of s → text_of s ≡ field_lines r
+      go (Ok u) e = ap field_lines (sym (same-ok e))
+      go (Err why) e = absurd (no-ok e)
 
-  pub prints-refusal : r.code ≢ 0 → printout message ≡ refused_line r.code
-  prints-refusal fault = text-of ∙ go (reading message) is
+  pub prints-refusal : (why : Fault) → Err why ≡ raw_of (reading message) → printout message ≡ refused_line (code_of why)
+  prints-refusal why is = text-of ∙ go (reading message) is
     where
-      go : (s : Reading Update) → r ≡ raw_of s → text_of s ≡ refused_line r.code
-      go (whole u) e = absurd (fault (ap (λ (x : Raw). x.code) e))
-      go (broken why) e = ap (λ (x : Raw). refused_line x.code) (sym e)
+      go : (s : Reading Update) → Err why ≡ raw_of s → text_of s ≡ refused_line (code_of why)
+      go (Ok u) e = absurd (no-ok (sym e))
+      go (Err other) e = ap (λ (w : Fault). refused_line (code_of w)) (sym (same-err e))

@@ -37,7 +37,7 @@ fn put_flag_line(buf: &mut [u8], at: usize, word: &[u8], present: bool) -> usize
     put_flag(buf, next, present)
 }
 
-// The low 32 bits of a number, signed.
+// The low 32 bits of a number, signed. `put_wide` puts numbers without a sign, so the sign is put before it.
 fn put_integer(buf: &mut [u8], at: usize, value: u64) -> usize
     requires { Room buf.old at (integer (low32 value)) }
     ensures { Put buf.old at (integer (low32 value)) buf.new result }
@@ -104,18 +104,18 @@ pub const LONGEST: usize = 65536;
 // Room for eight lines, each with its longest number.
 pub const LONGEST_TEXT: usize = 207;
 
+// A number and no error: `printout` tells it to print one line, and nothing else reads it.
 const BAD_LENGTH: u32 = 8;
 
 // Puts what the program prints for a message at the front of the buffer. Returns how many bytes that is.
 pub fn printout(message: &[u8], buf: &mut [u8; LONGEST_TEXT]) -> usize
     ensures { Put buf.old 0 (printout message.now) buf.new result × (result ≤ length buf.new) }
 {
-    if message.len() <= LONGEST {
-        let read = wire_arbitration::read_raw(message);
-        if read.code == wire_fields::READ {
-            return put_fields(buf, 0, read);
-        }
-        return any_text::put_refused_line(buf, 0, read.code as u32);
+    if LONGEST < message.len() {
+        return any_text::put_refused_line(buf, 0, BAD_LENGTH);
     }
-    any_text::put_refused_line(buf, 0, BAD_LENGTH)
+    match wire_arbitration::read_raw(message) {
+        Ok(read) => put_fields(buf, 0, read),
+        Err(fault) => any_text::put_refused_line(buf, 0, fault.number() as u32),
+    }
 }

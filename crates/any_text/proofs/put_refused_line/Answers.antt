@@ -1,15 +1,8 @@
-use Rattle.any_text.specs.Lines.{refused_line}
-use Rattle.any_text.specs.Puts.{puts}
+use Rattle.any_text.specs.Spacing.{refused-parts}
 use Rattle.any_text.proofs.put_refused_line.Goals as goal
 
-pub put_word-next-requires : goal.put_word-next-requires
-unfolding refused_line
-put_word-next-requires c = search puts
-
-pub put_number-requires : goal.put_number-requires
-unfolding refused_line
-put_number-requires c = search puts
+pub put_fitting_line-requires : goal.put_fitting_line-requires
+put_fitting_line-requires c = rw (refused-parts c.args.n) at c.requires
 
 pub returns : goal.returns
-unfolding refused_line
-returns c = search puts
+returns c = rw (refused-parts c.args.n) c.put_fitting_line.ensures

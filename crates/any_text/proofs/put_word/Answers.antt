@@ -1,19 +1,14 @@
-use native.Mathlib.Omega.{arith}
-use lib.Seq.{take_all}
-use Rattle.any_text.specs.Puts.{put-none, put-more, room-more}
+use Rattle.std.proofs.Common.{◌≡◌, List, ℕ, ◌+◌, ◌-◌, ◌≤◌, ◌++◌, length, take, drop, append_assoc, refl, sym, ap, ◌∙◌, arith}
+use Rattle.std.proofs.lemmas.List.Edits.{sets-eq}
+use borrow.Rule.Slice.PartMut.{put_mid, Post-is}
+use Rattle.any_text.specs.Put.{Put}
 use Rattle.any_text.proofs.put_word.Goals as goal
 
-pub loop-i-init : goal.loop-i-init
-loop-i-init c = (omega arith, put-none _ _)
-
-pub put_byte-next-requires : goal.put_byte-next-requires
-put_byte-next-requires c =
-    room-more c.args.word.now c.loop-i.i c.loop-i-test.true c.loop-i.invariant.1 c.requires
-
-pub loop-i-preserved : goal.loop-i-preserved
-loop-i-preserved c =
-    let word = c.args.word.now in
-    (omega arith, put-more word c.loop-i.i c.loop-i-test.true c.loop-i.invariant.1 c.put_byte-next.ensures)
+part-put : (l word copied : List ℕ) (at : ℕ) → at + length word ≤ length l → copied ≡ word → Put l at word (put_mid at (at + length word - at) l copied) (at + length word)
+part-put l word copied at h same = record {
+  content = rw same (ap (λ (rest : List ℕ). take at l ++ (word ++ rest)) (Post-is at (at + length word) l (omega arith)) ∙ sym (sets-eq word l at h ∙ append_assoc (take at l) word (drop (at + length word) l)));
+  place = refl;
+}
 
 pub returns : goal.returns
-returns c = rw (take_all c.loop-i.i c.args.word.now (omega arith)) at c.loop-i.invariant.1
+returns c = part-put _ _ _ _ c.requires.enough c.copy_from_slice.ensures.after

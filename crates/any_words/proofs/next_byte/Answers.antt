@@ -1,16 +1,12 @@
-use borrow.Author.Tests.{eq-eqb, ne_eqb}
-use Rattle.any_search.specs.Seek.{seek-starts, seek-more, seek-hits, seek-ends}
-use native.Mathlib.Omega.{arith}
+use Rattle.std.specs.Prelude.{eqb}
+use Rattle.std.proofs.Common.{rules}
+use Rattle.std.proofs.lemmas.Iterator.{YieldsList-from_slice}
+use Rattle.std.proofs.lemmas.Iterator.Search.{position_from_yields_List}
+use Rattle.any_words.proofs.First.{found-some, found-none}
 use Rattle.any_words.proofs.next_byte.Goals as goal
 
-pub loop-i-init : goal.loop-i-init
-loop-i-init c = seek-starts (omega arith)
+pub returns-in-Some : goal.returns-in-Some
+returns-in-Some c = found-some (λ x. eqb x c.args.byte) _ _ c.requires (position_from_yields_List (λ x. eqb x c.args.byte) _ _ _ c.position.ensures.ran (YieldsList-from_slice _ c.iter.ensures.rest) (λ x b q k. search rules)) c.in-Some.is
 
-pub returns-then-text-i : goal.returns-then-text-i
-returns-then-text-i c = seek-hits c.loop-i.invariant (eq-eqb _ _ c.if-text-i.true)
-
-pub loop-i-preserved : goal.loop-i-preserved
-loop-i-preserved c = seek-more c.loop-i.invariant c.loop-i-test.true (ne_eqb _ _ c.if-text-i.false)
-
-pub returns : goal.returns
-returns c = seek-ends c.loop-i.invariant c.loop-i-test.false
+pub returns-in-None : goal.returns-in-None
+returns-in-None c = found-none (λ x. eqb x c.args.byte) _ _ c.requires (position_from_yields_List (λ x. eqb x c.args.byte) _ _ _ c.position.ensures.ran (YieldsList-from_slice _ c.iter.ensures.rest) (λ x b q k. search rules)) c.in-None.is

@@ -1,17 +1,16 @@
-use mathlib.Core.Path.{sym, ◌∙◌}
-use Rattle.any_search.specs.Seek.{seek-starts, seek-more, seek-hits, seek-ends}
+use Rattle.std.specs.Prelude.{get_or}
+use Rattle.std.proofs.Common.{rules, refl}
+use Rattle.std.proofs.lemmas.Iterator.{YieldsList-from_slice}
+use Rattle.std.proofs.lemmas.Iterator.Search.{position_from_yields_List}
+use Rattle.std.specs.Bool.{beq}
+use Rattle.any_words.specs.Text.{is_blank}
 use Rattle.any_words.specs.Words.{blank-asked}
-use native.Mathlib.Omega.{arith}
+use Rattle.any_search.specs.Seek.{seek-as}
+use Rattle.any_words.proofs.First.{found-some, found-none}
 use Rattle.any_words.proofs.next_where.Goals as goal
 
-pub loop-i-init : goal.loop-i-init
-loop-i-init c = seek-starts (omega arith)
+pub returns-in-Some : goal.returns-in-Some
+returns-in-Some c = seek-as (λ k h. blank-asked c.args.blank c.args.line.now k (is_blank (get_or c.args.line.now k 0)) refl) (found-some (λ x. beq (is_blank x) c.args.blank) _ _ c.requires (position_from_yields_List (λ x. beq (is_blank x) c.args.blank) _ _ _ c.position.ensures.ran (YieldsList-from_slice _ c.iter.ensures.rest) (λ x b q k. search rules)) c.in-Some.is)
 
-pub returns-then-is_blank-blank : goal.returns-then-is_blank-blank
-returns-then-is_blank-blank c = seek-hits c.loop-i.invariant (sym (blank-asked c.args.blank c.args.line.now c.loop-i.i c.is_blank.result c.is_blank.ensures) ∙ c.if-is_blank-blank.true)
-
-pub loop-i-preserved : goal.loop-i-preserved
-loop-i-preserved c = seek-more c.loop-i.invariant c.loop-i-test.true (sym (blank-asked c.args.blank c.args.line.now c.loop-i.i c.is_blank.result c.is_blank.ensures) ∙ c.if-is_blank-blank.false)
-
-pub returns : goal.returns
-returns c = seek-ends c.loop-i.invariant c.loop-i-test.false
+pub returns-in-None : goal.returns-in-None
+returns-in-None c = seek-as (λ k h. blank-asked c.args.blank c.args.line.now k (is_blank (get_or c.args.line.now k 0)) refl) (found-none (λ x. beq (is_blank x) c.args.blank) _ _ c.requires (position_from_yields_List (λ x. beq (is_blank x) c.args.blank) _ _ _ c.position.ensures.ran (YieldsList-from_slice _ c.iter.ensures.rest) (λ x b q k. search rules)) c.in-None.is)

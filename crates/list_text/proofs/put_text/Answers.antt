@@ -5,7 +5,7 @@ use Rattle.list_text.proofs.put_text.Goals as goal
 
 pub returns : goal.returns
 returns c =
-    let few = c.requires.0 in
+    let few = c.args.list.good in
     let g = few.good in
     let p = c.put_line-at.ensures in
     let q = c.put_notes-next.ensures in

@@ -1,18 +1,12 @@
-use native.Mathlib.Omega.{arith}
-use Rattle.list_write.specs.Steps.{told-nodes, told-code, told-length, short-list}
+use Rattle.std.proofs.Common.{arith}
+use Rattle.list_write.specs.Steps.{told-nodes, short-list}
 use Rattle.list_write.proofs.write_call.Goals as goal
 
-pub returns-then-nodes : goal.returns-then-nodes
-returns-then-nodes c = told-nodes _ _ _ c.if-nodes.true
+pub returns-in_default : goal.returns-in_default
+returns-in_default c = told-nodes _ _ _ (let e = c.in_default.ensures in omega arith)
 
-pub returns-then-wrote-ne-DONE : goal.returns-then-wrote-ne-DONE
-returns-then-wrote-ne-DONE c = let w = c.write-wrote.ensures in (told-code _ _ _ w.0 w.1 (omega arith), w.2)
-
-pub overflow_cast-result-2 : goal.overflow_cast-result-2
-overflow_cast-result-2 c = let a = c.args in let s = short-list a.nodes a.steps.now a.out.now in let w = c.write-wrote.ensures.1 in omega arith
+pub overflow_cast-result : goal.overflow_cast-result
+overflow_cast-result c = let a = c.args in let s = short-list c.in-Ok.count a.steps.now a.out.now in let w = c.in-Ok-write.ensures.length in omega arith
 
 pub overflow_add-result : goal.overflow_add-result
-overflow_add-result c = let a = c.args in let s = short-list a.nodes a.steps.now a.out.now in let w = c.write-wrote.ensures.1 in omega arith
-
-pub returns : goal.returns
-returns c = let w = c.write-wrote.ensures in (told-length _ _ _ w.0 w.1 c.if-wrote-ne-DONE.false, w.2)
+overflow_add-result c = let a = c.args in let s = short-list c.in-Ok.count a.steps.now a.out.now in let w = c.in-Ok-write.ensures.length in omega arith

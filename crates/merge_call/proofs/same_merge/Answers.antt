@@ -1,30 +1,28 @@
-use mathlib.Core.Path.{ap, subst, ◌∙◌}
-use Prim.Native.Nat.{◌≤◌, ◌<◌}
-use Rattle.run_lists.specs.EventList.{over}
-use Rattle.merge_compare.specs.declared.Finding.{Finding}
-use Rattle.merge_compare.specs.Refusing.{code_is, code-bad, code-good}
-use Rattle.merge_call.specs.Reply.{place_bytes}
-use Rattle.merge_call.specs.Replies.{reply-short, reply-first, reply-places, reply-refused, reply-both}
+use Rattle.std.proofs.Common.{ap, sym, ◌∙◌, Result}
+use Rattle.step_parts.specs.Refusals.{cast-code, code-some}
+use Rattle.merge_compare.specs.declared.Verdict.{Verdict}
+use Rattle.merge_compare.specs.declared.Refused.{Refused}
+use Rattle.merge_call.specs.Reply.{given}
+use Rattle.merge_call.specs.Replies.{reply-short, reply-first, reply-long, reply-both}
 use Rattle.merge_call.proofs.same_merge.Goals as goal
 
-pub returns-then-trailer-eq-DONE : goal.returns-then-trailer-eq-DONE
-returns-then-trailer-eq-DONE c = reply-both (reply-short _ _ _ c.if-places-lt-PLACES.true (code-good _ _ c.read_trailer-trailer.ensures c.if-trailer-eq-DONE.true))
+pub returns-in-Ok : goal.returns-in-Ok
+returns-in-Ok c = reply-both (reply-short _ _ _ c.if-places-lt-PLACES.true c.in-Ok.ensures.none)
 
-pub returns-then-places-lt-PLACES : goal.returns-then-places-lt-PLACES
-returns-then-places-lt-PLACES c =
-    let e = c.read_trailer-trailer.ensures in
-    let is = reply-both (reply-first _ _ _ c.if-places-lt-PLACES.true (code-bad _ _ e c.if-trailer-eq-DONE.false)) in
-    (code_is _ _ e ∙ is.0, is.1)
+pub returns-in-Err : goal.returns-in-Err
+returns-in-Err c =
+    let why = c.in-Err.ensures in
+    let is = reply-both (reply-first _ _ _ c.if-places-lt-PLACES.true (λ z. code-some c.in-Err.refusal (why ∙ z))) in
+    (cast-code c.in-Err.refusal ∙ why ∙ is.0, is.1)
 
-pub returns-then-found-ge-SAME : goal.returns-then-found-ge-SAME
-returns-then-found-ge-SAME c =
-    let x = c.args in
-    let e = c.compare-found.ensures in
-    let is = reply-both (reply-places _ _ _ c.if-places-lt-PLACES.false (subst (λ (f : Finding). 256 ≤ f.verdict) e c.if-found-ge-SAME.true)) in
-    (ap (λ (f : Finding). f.verdict) e ∙ is.0, c.put_places.ensures ∙ ap (λ (f : Finding). over (place_bytes f) x.places.now) e ∙ is.1)
+pub returns-in-Ok-compare : goal.returns-in-Ok-compare
+returns-in-Ok-compare c =
+    let found = sym c.compare.ensures ∙ c.in-Ok-compare.is in
+    let is = reply-both (reply-long _ _ _ c.if-places-lt-PLACES.false ∙ ap (λ (r : Result Verdict Refused). given r c.args.places.now) found) in
+    (c.verdict_number.ensures ∙ is.0, c.put_places.ensures ∙ is.1)
 
-pub returns-else-found-ge-SAME : goal.returns-else-found-ge-SAME
-returns-else-found-ge-SAME c =
-    let e = c.compare-found.ensures in
-    let is = reply-both (reply-refused _ _ _ c.if-places-lt-PLACES.false (subst (λ (f : Finding). f.verdict < 256) e c.if-found-ge-SAME.false)) in
-    (ap (λ (f : Finding). f.verdict) e ∙ is.0, is.1)
+pub returns-in-Err-compare : goal.returns-in-Err-compare
+returns-in-Err-compare c =
+    let found = sym c.compare.ensures ∙ c.in-Err-compare.is in
+    let is = reply-both (reply-long _ _ _ c.if-places-lt-PLACES.false ∙ ap (λ (r : Result Verdict Refused). given r c.args.places.now) found) in
+    (c.refusal_number.ensures ∙ is.0, is.1)

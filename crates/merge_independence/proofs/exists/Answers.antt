@@ -1,16 +1,12 @@
-use mathlib.Core.Path.{sym, ◌∙◌}
-use native.Mathlib.Omega.{arith}
-use Rattle.merge_independence.specs.Kinds.{none-exists, at-node, at_none, past_all}
+use mathlib.Core.Path.{◌∙◌}
+use Rattle.merge_independence.specs.Kinds.{power-exists, node-exists, unknown-exists}
 use Rattle.merge_independence.proofs.exists.Goals as goal
 
-pub returns-then-kind-eq0 : goal.returns-then-kind-eq0
-returns-then-kind-eq0 c = sym (none-exists _ _ _ c.if-kind-eq0.true)
+pub returns-in_default : goal.returns-in_default
+returns-in_default c = unknown-exists _ _ _ c.in_default.ensures.1
 
-pub returns-then-kind-lt-SHUTDOWN : goal.returns-then-kind-lt-SHUTDOWN
-returns-then-kind-lt-SHUTDOWN c = c.is_node.ensures ∙ sym (at-node _ _ _ (omega arith) (omega arith))
+pub returns-in-Shutdown : goal.returns-in-Shutdown
+returns-in-Shutdown c = rw c.in-Ok.ensures (power-exists _ _ c.in-Ok.kind c.in-Shutdown.is)
 
-pub returns-then-kind-le-STARTUP : goal.returns-then-kind-le-STARTUP
-returns-then-kind-le-STARTUP c = sym (at_none _ _ _ (omega arith) (omega arith))
-
-pub returns : goal.returns
-returns c = sym (past_all _ _ _ (omega arith))
+pub returns-in_default-kind : goal.returns-in_default-kind
+returns-in_default-kind c = rw c.in-Ok.ensures (c.is_node.ensures ∙ node-exists _ _ c.in-Ok.kind c.in_default-kind.not-Shutdown c.in_default-kind.not-Startup)

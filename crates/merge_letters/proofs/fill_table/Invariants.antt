@@ -1,10 +1,5 @@
-use Prim.Native.Nat.{◌-◌}
-use Rattle.merge_letters.specs.Letters.{table_size}
 use Rattle.merge_letters.specs.Table.{Filled}
 use Rattle.merge_letters.proofs.fill_table.Given as goal
 
 abbrev pub invariant-loop-i : goal.invariant-loop-i
 invariant-loop-i l = Filled l.nodes l.table l.i
-
-abbrev pub decreases-loop-i : goal.decreases-loop-i
-decreases-loop-i l = table_size - l.i

@@ -6,7 +6,4 @@ use Rattle.any_search.specs.Seek.{Seeking}
 use Rattle.merge_places.proofs.find_left.Given as goal
 
 abbrev pub invariant-loop-i : goal.invariant-loop-i
-invariant-loop-i l = Seeking (is_there l.second (event_of l.event) l.places) l.start (length l.places) l.i
-
-abbrev pub decreases-loop-i : goal.decreases-loop-i
-decreases-loop-i l = length l.places - l.i
+invariant-loop-i l = Seeking (is_there l.second.bytes.now (event_of l.event) l.places) l.start (length l.places) l.i

@@ -6,7 +6,4 @@ use Rattle.any_search.specs.Seek.{Seeking}
 use Rattle.merge_places.proofs.find_record.Given as goal
 
 abbrev pub invariant-loop-i : goal.invariant-loop-i
-invariant-loop-i l = Seeking (λ a. same_event (record_at l.first a) (event_of l.event)) l.start l.trailer.records l.i
-
-abbrev pub decreases-loop-i : goal.decreases-loop-i
-decreases-loop-i l = l.trailer.records - l.i
+invariant-loop-i l = Seeking (λ a. same_event (record_at l.first.bytes.now a) (event_of l.event)) l.start l.first.trailer.records l.i

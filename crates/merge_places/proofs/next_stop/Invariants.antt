@@ -6,6 +6,3 @@ use Rattle.merge_places.proofs.next_stop.Given as goal
 
 abbrev pub invariant-loop-i : goal.invariant-loop-i
 invariant-loop-i l = Seeking (is_stop l.letters l.table l.letter l.places) l.start (length l.places) l.i
-
-abbrev pub decreases-loop-i : goal.decreases-loop-i
-decreases-loop-i l = length l.places - l.i

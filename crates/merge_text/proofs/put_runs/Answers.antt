@@ -10,7 +10,7 @@ pub put_parting-requires : goal.put_parting-requires
 put_parting-requires c =
     let line = c.put_line-next.ensures in
     let same = put-length line.0 in
-    let start = c.requires.4 in
+    let start = c.requires.2 in
     omega arith
 
 pub returns : goal.returns
@@ -21,8 +21,8 @@ returns c =
     let mine = run.new.out in
     let theirs = run2.new.out in
     let put = put_both run.ensures run2.ensures
-    (take_all (length mine - x.one.records) (drop x.one.records mine) (simp length-drop (omega arith)))
-    (take_all (length theirs - x.other.records) (drop x.other.records theirs) (simp length-drop (omega arith)))
+    (take_all (length mine - x.first.trailer.records) (drop x.first.trailer.records mine) (simp length-drop (omega arith)))
+    (take_all (length theirs - x.second.trailer.records) (drop x.second.trailer.records theirs) (simp length-drop (omega arith)))
     c.difference-parting.ensures c.put_line-next.ensures.0 c.put_parting.ensures.0 in
     let line = c.put_line-next.ensures.1 in
     let last = c.put_parting.ensures.1 in

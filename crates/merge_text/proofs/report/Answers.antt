@@ -1,60 +1,51 @@
-use mathlib.Core.Path.{ap, ap₂, sym, ◌∙◌}
-use mathlib.Core.List.{[], ◌∷◌}
-use Prim.Native.Nat.{ℕ}
-use native.Mathlib.Omega.{arith}
-use Rattle.run_lists.specs.Trails.{Trails, trails}
+use Rattle.std.proofs.Common.{ap, ap₂, sym, ◌∙◌, ℕ, List, [], ◌∷◌, ◌++◌, arith}
 use Rattle.any_text.specs.Puts.{put-length}
-use Rattle.merge_compare.specs.Refusing.{code_is, code-bad, code-good}
+use Rattle.step_parts.specs.Refusals.{cast-code, code-some}
+use Rattle.run_lists.specs.Trails.{Trails, trails-same}
 use Rattle.any_text.specs.Line as L
+use Rattle.merge_compare.specs.Compared.{comparison}
 use Rattle.merge_text.specs.Words as W
+use Rattle.merge_text.specs.Report.{verdict_line, runs_text}
 use Rattle.merge_text.specs.Says.{put_as, says-refused-first, says-refused-second, says-nodes, says_all}
 use Rattle.merge_text.proofs.report.Goals as goal
-use Rattle.merge_text.proofs.report.Goals.{After-struct_known-4-1}
+use Rattle.merge_text.proofs.report.Goals.{In-Ok}
 
--- neither list is refused
-good : (c : After-struct_known-4-1) → let x = c.args in
-    Trails x.first.now c.read_trailer-one.result × Trails x.second.now c.read_trailer-other.result
-good c =
-    let x = c.args in
-    (trails x.first.now _ c.read_trailer-one.ensures c.if-one-ne-DONE.false, trails x.second.now _ c.read_trailer-other.ensures c.if-other-ne-DONE.false)
+one : (c : In-Ok) → Trails c.args.first.now c.in-Ok.list.trailer
+one c = trails-same c.in-Ok.ensures c.in-Ok.list.good
 
-pub returns-then-one-ne-DONE : goal.returns-then-one-ne-DONE
-returns-then-one-ne-DONE c =
+pub returns-in-Err : goal.returns-in-Err
+returns-in-Err c =
     let x = c.args in
-    let e = c.read_trailer-one.ensures in
+    let why = c.in-Err.ensures in
     let line = c.put_line.ensures in
     let same = put-length line.0 in
-    (put_as (ap (λ (k : ℕ). L.line W.refused_first (k ∷ [])) (code_is _ _ e) ∙ says-refused-first x.first.now x.second.now (code-bad _ _ e c.if-one-ne-DONE.true)) line.0, omega arith)
+    (put_as (ap (λ (k : ℕ). L.line W.refused_first (k ∷ [])) (cast-code c.in-Err.refusal ∙ why) ∙ says-refused-first x.first.now x.second.now (λ z. code-some c.in-Err.refusal (why ∙ z))) line.0, omega arith)
 
-pub returns-then-other-ne-DONE : goal.returns-then-other-ne-DONE
-returns-then-other-ne-DONE c =
+pub returns-in-Err-read : goal.returns-in-Err-read
+returns-in-Err-read c =
     let x = c.args in
-    let e = c.read_trailer-other.ensures in
-    let line = c.put_line-then-other-ne-DONE.ensures in
+    let good = one (goal.at.returns-in-Err-read c).In-Ok in
+    let why = c.in-Err-read.ensures in
+    let line = c.put_line-in-Err-read.ensures in
     let same = put-length line.0 in
-    let good-first = code-good _ _ c.read_trailer-one.ensures c.if-one-ne-DONE.false in
-    (put_as (ap (λ (k : ℕ). L.line W.refused_second (k ∷ [])) (code_is _ _ e) ∙ says-refused-second x.first.now x.second.now good-first (code-bad _ _ e c.if-other-ne-DONE.true)) line.0, omega arith)
+    (put_as (ap (λ (k : ℕ). L.line W.refused_second (k ∷ [])) (cast-code c.in-Err-read.refusal ∙ why) ∙ says-refused-second x.first.now x.second.now good.none (λ z. code-some c.in-Err-read.refusal (why ∙ z))) line.0, omega arith)
 
 pub returns-then-one-other : goal.returns-then-one-other
 returns-then-one-other c =
     let x = c.args in
-    let one = (good (goal.at.returns-then-one-other c).After-struct_known-4-1).0 in
-    let other = (good (goal.at.returns-then-one-other c).After-struct_known-4-1).1 in
+    let first = one (goal.at.returns-then-one-other c).In-Ok in
+    let second = trails-same c.in-Ok-read.ensures c.in-Ok-read.list.good in
     let line = c.put_line-then-one-other.ensures in
     let same = put-length line.0 in
-    (put_as (ap₂ (λ (k l : ℕ). L.line W.refused_nodes (k ∷ l ∷ [])) one.nodes other.nodes ∙ says-nodes x.first.now x.second.now one.none other.none (λ e. c.if-one-other.true (one.nodes ∙ e ∙ sym other.nodes))) line.0, omega arith)
-
-pub put_comparison-requires : goal.put_comparison-requires
-put_comparison-requires c =
-    let one = (good (goal.at.put_comparison-requires c).After-struct_known-4-1).0 in
-    let other = (good (goal.at.put_comparison-requires c).After-struct_known-4-1).1 in
-    (one, other, sym one.nodes ∙ c.if-one-other.false ∙ other.nodes, omega arith)
+    (put_as (ap₂ (λ (k l : ℕ). L.line W.refused_nodes (k ∷ l ∷ [])) first.nodes second.nodes ∙ says-nodes x.first.now x.second.now first.none second.none (λ e. c.if-one-other.true (first.nodes ∙ e ∙ sym second.nodes))) line.0, omega arith)
 
 pub returns : goal.returns
 returns c =
     let x = c.args in
-    let one = (good (goal.at.returns c).After-struct_known-4-1).0 in
-    let other = (good (goal.at.returns c).After-struct_known-4-1).1 in
+    let first = one (goal.at.returns c).In-Ok in
+    let second = trails-same c.in-Ok-read.ensures c.in-Ok-read.list.good in
     let text = c.put_comparison.ensures in
     let same = put-length text.0 in
-    (put_as (says_all x.first.now x.second.now one.none other.none (sym one.nodes ∙ c.if-one-other.false ∙ other.nodes)) text.0, omega arith)
+    let nodes = sym first.nodes ∙ c.if-one-other.false ∙ second.nodes in
+    let said = ap₂ (λ (a b : List ℕ). verdict_line (comparison a b) ++ runs_text a b) c.in-Ok.ensures c.in-Ok-read.ensures in
+    (put_as (said ∙ says_all x.first.now x.second.now first.none second.none nodes) text.0, omega arith)

@@ -6,11 +6,11 @@ use Rattle.merge_text.proofs.run_good.Goals as goal
 use Rattle.merge_text.proofs.run_good.Goals.{After-slice_known-2-1}
 
 ended : (c : After-slice_known-2-1) → let run = c.run in let x = c.args in
-    (no_writes ≤ run.result) × Written x.list.now x.trailer.records run.new.out (run.result - no_writes)
+    (no_writes ≤ run.result) × Written x.list.bytes.now x.list.trailer.records run.new.out (run.result - no_writes)
 ended c =
     let run = c.run in
-    let known = c.requires.0 in
-    rw known.records (written-run c.args.list.now c.args.out.now run.new.out run.result known.none (omega arith) run.ensures.0 run.ensures.1)
+    let known = c.args.list.good in
+    rw known.records (written-run c.args.list.bytes.now c.args.out.now run.new.out run.result known.none (omega arith) run.ensures.0 run.ensures.1)
 
 pub overflow_sub-result : goal.overflow_sub-result
 overflow_sub-result c = let done = (ended (goal.at.overflow_sub-result c).After-slice_known-2-1).0 in omega arith

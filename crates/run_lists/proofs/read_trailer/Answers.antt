@@ -1,39 +1,33 @@
-use mathlib.Core.Path.{◌≡◌, refl, sym, ◌∙◌}
-use mathlib.Core.Logic.{◌≢◌}
-use mathlib.Core.List.{List}
-use Prim.Native.Nat.{ℕ, zero, suc, ◌≤◌}
-use native.Mathlib.Omega.{arith}
-use lib.ListN.{length}
-use Rattle.run_lists.specs.EventList.{trailer_length}
-use Rattle.run_lists.specs.Reads.{answered, trailer_of}
-use Rattle.run_lists.specs.Good.{good}
-use Rattle.run_lists.specs.declared.Trailer.{Trailer}
+use Rattle.std.proofs.Common.{◌≡◌}
+use Rattle.rules.specs.Range.{within}
+use Rattle.any_list.specs.Tests.{tests}
+use Rattle.run_lists.specs.EventList.{refusal}
+use Rattle.run_lists.specs.Trails.{trails}
 use Rattle.run_lists.proofs.read_trailer.Goals as goal
-use Rattle.run_lists.proofs.read_trailer.Goals.{Then-code-eq-DONE}
+use Rattle.run_lists.proofs.read_trailer.Goals.{then-length-lt-TRAILER_LENGTH-via-then-length-lt-TRAILER_LENGTH, then-length-lt-TRAILER_LENGTH-via-else-length-lt-TRAILER_LENGTH+then-length-gt-LONGEST, then-list-at-ne77-via-then-list-at-ne77, then-list-at-ne77-via-else-list-at-ne77+then-list-at-ne65, then-list-at-ne77-via-else-list-at-ne77+else-list-at-ne65+then-list-at-ne0, then-nodes-lt1-via-then-nodes-lt1, then-nodes-lt1-via-else-nodes-lt1+then-nodes-gt-MOST_NODES}
 
-refused : (code : ℕ) (l : List ℕ) → code ≢ 0 → ◌≡◌ {A = Trailer} (record { code = code; first = 0; records = 0; nodes = 0 }) (answered code l)
-refused zero l n = absurd (n refl)
-refused (suc code) l n = refl
+pub returns-then-length-lt-TRAILER_LENGTH : goal.returns-then-length-lt-TRAILER_LENGTH
+unfolding refusal within
+returns-then-length-lt-TRAILER_LENGTH c =
+    elim c.then-length-lt-TRAILER_LENGTH.branch [ then-length-lt-TRAILER_LENGTH-via-then-length-lt-TRAILER_LENGTH w ↦ search tests | then-length-lt-TRAILER_LENGTH-via-else-length-lt-TRAILER_LENGTH+then-length-gt-LONGEST w ↦ search tests ]
 
-long : (c : Then-code-eq-DONE) → trailer_length ≤ length c.args.list.now
-long c = (good _ (sym c.refusal-code.ensures ∙ c.if-code-eq-DONE.true)).size.lower
+pub returns-then-list-at-ne77 : goal.returns-then-list-at-ne77
+unfolding refusal within
+returns-then-list-at-ne77 c =
+    elim c.then-list-at-ne77.branch [ then-list-at-ne77-via-then-list-at-ne77 w ↦ search tests | then-list-at-ne77-via-else-list-at-ne77+then-list-at-ne65 w ↦ search tests | then-list-at-ne77-via-else-list-at-ne77+else-list-at-ne65+then-list-at-ne0 w ↦ search tests ]
 
-pub overflow_sub-at : goal.overflow_sub-at
-overflow_sub-at c = omega (arith, long (goal.at.overflow_sub-at c).Then-code-eq-DONE)
+pub returns-then-nodes-lt1 : goal.returns-then-nodes-lt1
+unfolding refusal within
+returns-then-nodes-lt1 c =
+    elim c.then-nodes-lt1.branch [ then-nodes-lt1-via-then-nodes-lt1 w ↦ search tests | then-nodes-lt1-via-else-nodes-lt1+then-nodes-gt-MOST_NODES w ↦ search tests ]
 
-pub number_at-first-requires : goal.number_at-first-requires
-number_at-first-requires c = omega (arith, long (goal.at.number_at-first-requires c).Then-code-eq-DONE)
-
-pub number_at-records-requires : goal.number_at-records-requires
-number_at-records-requires c = omega (arith, long (goal.at.number_at-records-requires c).Then-code-eq-DONE)
-
-pub bounds-list-at : goal.bounds-list-at
-bounds-list-at c = omega (arith, long (goal.at.bounds-list-at c).Then-code-eq-DONE)
-
-pub returns-then-code-eq-DONE : goal.returns-then-code-eq-DONE
-unfolding trailer_of
-returns-then-code-eq-DONE c = let e = c.if-code-eq-DONE.true in rw (← c.refusal-code.ensures, e, c.number_at-first.ensures.0, c.number_at-records.ensures.0)
+pub returns-then-first-records : goal.returns-then-first-records
+unfolding refusal within
+returns-then-first-records c =
+    search (tests, ← c.number_at-records.ensures.0, ← c.number_at-first.ensures.0)
 
 pub returns : goal.returns
-unfolding trailer_of
-returns c = rw (← c.refusal-code.ensures) (refused _ _ c.if-code-eq-DONE.false)
+unfolding refusal within
+returns c =
+    let none : refusal c.args.list.now ≡ 0 = search (tests, ← c.number_at-records.ensures.0, ← c.number_at-first.ensures.0) in
+    rw (c.number_at-records.ensures.0, c.number_at-first.ensures.0) (trails c.args.list.now none)

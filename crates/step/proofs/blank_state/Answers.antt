@@ -7,6 +7,6 @@ unfolding blank_state represent pack_history
 returns c = λ i. record {
   count = c.args.count;
   running = c.args.running;
-  core = c.blank_core-core.ensures c.args.count i;
+  core = c.blank_core.ensures c.args.count i;
   history = record { items = no-history i; len = 0 };
 }

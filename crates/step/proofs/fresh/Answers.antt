@@ -1,18 +1,13 @@
-use native.Mathlib.Omega.{arith}
+use mathlib.Core.Path.{sym, ◌∙◌}
 use Rattle.rules.specs.Step.{fresh}
 use Rattle.step.specs.Public.{freshened}
 use Rattle.step.specs.Settling.{blank_state}
-use Rattle.step_asks.specs.Kinds.{inside, under, over}
 use Rattle.step.proofs.fresh.Goals as goal
 
-pub returns-then-nodes-eq0 : goal.returns-then-nodes-eq0
-unfolding freshened blank_state
-returns-then-nodes-eq0 c = simp (under 1 8 c.args.nodes (omega arith), c.blank_state-state.ensures)
-
-pub returns-then-nodes-gt-MOST_NODES : goal.returns-then-nodes-gt-MOST_NODES
-unfolding freshened blank_state
-returns-then-nodes-gt-MOST_NODES c = simp (over 1 8 c.args.nodes (omega arith) c.if-nodes-gt-MOST_NODES.true, c.blank_state-state-then-nodes-gt-MOST_NODES.ensures)
+pub returns-then-is_node : goal.returns-then-is_node
+unfolding freshened blank_state fresh
+returns-then-is_node c = simp (sym c.is_node.ensures ∙ c.if-is_node.true, c.blank_state.ensures)
 
 pub returns : goal.returns
-unfolding freshened blank_state fresh
-returns c = simp (inside 1 8 c.args.nodes (omega arith) c.if-nodes-gt-MOST_NODES.false, c.blank_state-state-2.ensures)
+unfolding freshened blank_state
+returns c = simp (sym c.is_node.ensures ∙ c.if-is_node.false, c.blank_state-2.ensures)

@@ -21,22 +21,22 @@ written-requires c = let m = c.in_default.in_default-own in c.requires.0.can_wri
 
 pub returns-in-4 : goal.returns-in-4
 returns-in-4 c =
-    rw c.in-4.is (c.quiet.ensures ∙ ap (quiet c.args.ask c.args.controller c.args.claims) c.send_update.ensures)
+    rw c.in-4.is (c.quiet.ensures ∙ ap (quiet c.args.controller c.args.claims) c.send_update.ensures)
 
 pub returns-in-5 : goal.returns-in-5
 returns-in-5 c = rw c.in-5.is c.flagged.ensures
 
 pub returns-in-6 : goal.returns-in-6
 returns-in-6 c =
-    rw c.in-6.is (c.quiet-in-6.ensures ∙ ap (quiet c.args.ask c.args.controller c.args.claims) c.send_write.ensures)
+    rw c.in-6.is (c.quiet-in-6.ensures ∙ ap (quiet c.args.controller c.args.claims) c.send_write.ensures)
 
 pub returns-in-7 : goal.returns-in-7
 returns-in-7 c =
-    rw c.in-7.is (c.quiet-in-7.ensures ∙ ap (quiet c.args.ask c.args.controller c.args.claims) c.receive.ensures)
+    rw c.in-7.is (c.quiet-in-7.ensures ∙ ap (quiet c.args.controller c.args.claims) c.receive.ensures)
 
 pub returns-in-8 : goal.returns-in-8
 returns-in-8 c =
-    rw c.in-8.is (c.quiet-in-8.ensures ∙ ap (quiet c.args.ask c.args.controller c.args.claims) c.connect.ensures)
+    rw c.in-8.is (c.quiet-in-8.ensures ∙ ap (quiet c.args.controller c.args.claims) c.connect.ensures)
 
 pub returns-in_default : goal.returns-in_default
 returns-in_default c =

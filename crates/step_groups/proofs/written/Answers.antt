@@ -4,4 +4,4 @@ use Rattle.step_groups.proofs.written.Goals as goal
 
 pub returns : goal.returns
 returns c =
-    ap (handled_row c.args.ask c.args.controller c.args.claims) c.handle_write-handled.ensures
+    ap (handled_row c.args.controller c.args.claims) c.handle_write-handled.ensures

@@ -9,7 +9,7 @@ unfolding learn_rule
 returns c =
     let q = c.args.controller.events in
     λ i. record {
-      events = (c.pop-rest.ensures ∙ pop-events q c.requires.events) i;
+      events = (c.pop.ensures ∙ pop-events q c.requires.events) i;
       learned = head-event q c.requires.events i;
       says = c.args.controller.says;
     }

@@ -1,12 +1,17 @@
+use Rattle.std.proofs.Common.{◌∙◌, get_or}
+use Rattle.step_parts.specs.Hold.{no_response}
 use Rattle.step_nodes.specs.Rules.{waits-closed, waits-none, waits-some}
+use Rattle.step_nodes.proofs.Cases.{same-write}
 use Rattle.step_nodes.proofs.may_receive_write.Goals as goal
+use Rattle.step_nodes.proofs.may_receive_write.Goals.{else-stream-via-then-stream+else-stream-ne0, else-stream-via-else-stream}
 
-pub returns-then-responses-eq0 : goal.returns-then-responses-eq0
-returns-then-responses-eq0 c = (waits-none c.args.stream c.requires c.if-stream.true c.if-responses-eq0.true).1
-
-pub returns-then-stream : goal.returns-then-stream
-returns-then-stream c =
-    (waits-some c.args.stream c.requires c.if-stream.true c.if-responses-eq0.false c.is_write.result c.is_write.ensures).1
+pub returns-then-stream-ne0 : goal.returns-then-stream-ne0
+returns-then-stream-ne0 c =
+    let s = c.args.stream.now in
+    c.eq.ensures ∙ (waits-some s c.requires c.if-stream.true c.if-stream-ne0.true _ (same-write (get_or s.responses.items 0 no_response).message)).1
 
 pub returns : goal.returns
-returns c = (waits-closed c.args.stream c.requires c.if-stream.false).1
+returns c = elim c.else-stream.branch [
+  | else-stream-via-then-stream+else-stream-ne0 w ↦ (waits-none c.args.stream.now c.requires w.if-stream.true w.if-stream-ne0.false).1
+  | else-stream-via-else-stream w ↦ (waits-closed c.args.stream.now c.requires w.if-stream.false).1
+]

@@ -9,5 +9,5 @@ returns c =
       opened = s.opened;
       sent = s.sent;
       requests = s.requests;
-      responses = (c.pop-next.ensures ∙ pop-responses s.responses c.requires.responses) i;
+      responses = (c.pop.ensures ∙ pop-responses s.responses c.requires.responses) i;
     }

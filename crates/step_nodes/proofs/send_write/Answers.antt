@@ -3,7 +3,7 @@ use Prim.Native.Nat.{ℕ}
 use Rattle.rules.specs.State as S
 use Rattle.rules.specs.Rules.{send_write_rule}
 use Rattle.step_parts.specs.Hold.{pack_request}
-use Rattle.step_parts.specs.Queues.{push_request}
+use Rattle.step_parts.specs.Queues.{with_last}
 use Rattle.step_parts.specs.Ordered.{push-requests}
 use Rattle.step_nodes.proofs.send_write.Goals as goal
 
@@ -17,8 +17,8 @@ returns c =
       opened = s.opened;
       sent = s.sent;
       requests =
-          (c.push-next.ensures
-          ∙ ap (λ (id : ℕ). push_request s.requests (pack_request (asked id))) c.election_id-id.ensures
+          (c.push.ensures
+          ∙ ap (λ (id : ℕ). with_last s.requests (pack_request (asked id))) c.election_id.ensures
           ∙ push-requests s.requests (asked _) c.requires.0.requests c.requires.1) i;
       responses = s.responses;
     }

@@ -2,10 +2,10 @@ use Rattle.rules.specs.Range.{within}
 use Rattle.any_list.specs.Tests.{tests}
 use Rattle.step_parts.proofs.is_node.Goals as goal
 
-pub returns-then-node-lt1 : goal.returns-then-node-lt1
+pub returns-then-node-ge1 : goal.returns-then-node-ge1
 unfolding within
-returns-then-node-lt1 c = search tests
+returns-then-node-ge1 c = search tests
 
-pub returns : goal.returns
+pub returns-else-node-ge1 : goal.returns-else-node-ge1
 unfolding within
-returns c = search tests
+returns-else-node-ge1 c = search tests

@@ -1,5 +1,5 @@
-use mathlib.Core.Path.{◌≡◌, ◌∙◌}
-use mathlib.Core.Bool.{false}
+use Rattle.std.proofs.Common.{◌≡◌, ◌∙◌, arith}
+use Rattle.std.proofs.lemmas.Bool.Decides.{nat_tests}
 use Rattle.rules.specs.Limits.{most_nodes}
 use Rattle.rules_laws.specs.Tests.{is-yes, is_within}
 use Rattle.step_state.specs.Tidy.{state_fits}
@@ -7,7 +7,6 @@ use Rattle.step_bridge.proofs.Sizes.{sized}
 use Rattle.step_range_queues.specs.Each.{from-result}
 use Rattle.step_range.specs.Tests.{state_test}
 use Rattle.step_range.specs.Agree.{state-agree}
-use native.Mathlib.Omega.{arith}
 use Rattle.step_range.proofs.in_range.Goals as goal
 use Rattle.step_range.proofs.in_range.Goals.{Start}
 
@@ -20,19 +19,11 @@ core_fits-requires c = ((is_within 1 most_nodes _).to ((is-yes _).from (from-res
 pub returns-then-core_fits : goal.returns-then-core_fits
 unfolding state_test
 returns-then-core_fits c =
-    let count = from-result c.is_node.ensures c.if-is_node.true in
-    let e : c.history_fits.result ≡ state_test c.args.s = simp (count, from-result c.core_fits.ensures c.if-core_fits.true) c.history_fits.ensures in
+    let e : c.history_fits.result ≡ state_test c.args.s = grind (arith, nat_tests) in
     e ∙ same (goal.at.returns-then-core_fits c).Start
 
 pub returns-else-core_fits : goal.returns-else-core_fits
 unfolding state_test
 returns-else-core_fits c =
-    let count = from-result c.is_node.ensures c.if-is_node.true in
-    let e : false ≡ state_test c.args.s = simp (count, from-result c.core_fits.ensures c.if-core_fits.false) in
+    let e : c.if-is_node.value ≡ state_test c.args.s = grind (arith, nat_tests) in
     e ∙ same (goal.at.returns-else-core_fits c).Start
-
-pub returns-else-is_node : goal.returns-else-is_node
-unfolding state_test
-returns-else-is_node c =
-    let e : false ≡ state_test c.args.s = simp (from-result c.is_node.ensures c.if-is_node.false) in
-    e ∙ same (goal.at.returns-else-is_node c).Start

@@ -1,4 +1,5 @@
 use mathlib.Core.Path.{◌≡◌, refl, sym, ap, ◌∙◌}
+use borrow.Author.Tests.{eqb-true}
 use mathlib.Core.Logic.{◌≢◌}
 use mathlib.Core.List.{List}
 use Prim.Native.Nat.{ℕ, ◌-◌, ◌≤◌}
@@ -36,19 +37,19 @@ among c =
     let n = length-column id_at c.args.count c.args.ids (omega arith) in
     let u = c.requires.0.upto in omega arith
 
-pub returns-then-largest-id : goal.returns-then-largest-id
-returns-then-largest-id c = let e = top (goal.at.returns-then-largest-id c).Start in sym (ap pack_elected (higher-wins (held (goal.at.returns-then-largest-id c).Start) (made (goal.at.returns-then-largest-id c).Start) c.args.node c.args.id.0 c.requires.0.from (among (goal.at.returns-then-largest-id c).Start) (omega arith)))
+pub returns-then-now-id : goal.returns-then-now-id
+returns-then-now-id c = let e = top (goal.at.returns-then-now-id c).Start in sym (ap pack_elected (higher-wins (held (goal.at.returns-then-now-id c).Start) (made (goal.at.returns-then-now-id c).Start) c.args.node c.args.id.0 c.requires.0.from (among (goal.at.returns-then-now-id c).Start) (omega arith)))
 
-pub returns-then-id-largest : goal.returns-then-id-largest
-returns-then-id-largest c =
-    let is = kept-master (goal.at.returns-then-id-largest c).Start ∙ c.if-now-node.true in
-    c.requires.1 ∙ sym (ap pack_elected (same-stays (held (goal.at.returns-then-id-largest c).Start) (made (goal.at.returns-then-id-largest c).Start) c.args.node c.args.id.0 c.requires.0.from (among (goal.at.returns-then-id-largest c).Start) (c.if-id-largest.true ∙ top (goal.at.returns-then-id-largest c).Start) is))
+pub returns-then-eq : goal.returns-then-eq
+returns-then-eq c =
+    let is = kept-master (goal.at.returns-then-eq c).Start ∙ c.if-now-node.true in
+    c.requires.1 ∙ sym (ap pack_elected (same-stays (held (goal.at.returns-then-eq c).Start) (made (goal.at.returns-then-eq c).Start) c.args.node c.args.id.0 c.requires.0.from (among (goal.at.returns-then-eq c).Start) (eqb-true _ _ (sym c.eq.ensures ∙ c.if-eq.true) ∙ top (goal.at.returns-then-eq c).Start) is))
 
-pub returns-then-id-largest-2 : goal.returns-then-id-largest-2
-returns-then-id-largest-2 c =
-    let e = top (goal.at.returns-then-id-largest-2 c).Start in
-    let other : (held (goal.at.returns-then-id-largest-2 c).Start).master ≢ c.args.node = λ z. c.if-now-node.false (sym (kept-master (goal.at.returns-then-id-largest-2 c).Start) ∙ z) in
-    c.requires.1 ∙ sym (ap pack_elected (lower-stays (held (goal.at.returns-then-id-largest-2 c).Start) (made (goal.at.returns-then-id-largest-2 c).Start) c.args.node c.args.id.0 c.requires.0.from (among (goal.at.returns-then-id-largest-2 c).Start) (omega arith) other))
+pub returns-then-id-now : goal.returns-then-id-now
+returns-then-id-now c =
+    let e = top (goal.at.returns-then-id-now c).Start in
+    let other : (held (goal.at.returns-then-id-now c).Start).master ≢ c.args.node = λ z. c.if-now-node.false (sym (kept-master (goal.at.returns-then-id-now c).Start) ∙ z) in
+    c.requires.1 ∙ sym (ap pack_elected (lower-stays (held (goal.at.returns-then-id-now c).Start) (made (goal.at.returns-then-id-now c).Start) c.args.node c.args.id.0 c.requires.0.from (among (goal.at.returns-then-id-now c).Start) (omega arith) other))
 
 pub returns : goal.returns
 unfolding holding elected

@@ -1,58 +1,69 @@
-use mathlib.Core.Path.{◌≡◌, sym, ap, ◌∙◌}
-use mathlib.Core.Bool.{Bool, true, false, cond}
-use Prim.Native.Nat.{ℕ, ◌+◌, ◌-◌, ◌*◌, ◌<◌}
-use native.Mathlib.Omega.{arith}
-use lib.ListN.{length, drop, get_or, length-drop}
+use Rattle.std.proofs.Common.{◌≡◌, refl, ◌*◌, ℕ, ◌+◌, ◌<◌, Bool, true, false, cond, List, length, take, get_or, sym, ap, ◌∙◌, arith, length-take, length-take-le, get_or-take}
 use Rattle.rules.specs.Open.{word_of}
 use Rattle.any_list.specs.Arrays.{column}
-use Rattle.any_list.specs.Columns.{length-column, left-more, left-none}
-use Rattle.any_word.specs.Flags.{word_none, word-cons, word_small}
+use Rattle.any_list.specs.Columns.{length-column, column-at}
+use Rattle.any_word.specs.Flags.{word_none, word_small}
 use Rattle.step_state.specs.Hold.{open_at}
 use Rattle.step_state.specs.Order.{past_stream}
+use Rattle.step_streams.proofs.Bits.{bit_next, bit_small, word-more}
 use Rattle.step_streams.proofs.open_word.Goals as goal
-use Rattle.step_streams.proofs.open_word.Goals.{At-loop-i, Start}
+use Rattle.step_streams.proofs.open_word.Goals.{At-loop-stream, then-stream, else-stream}
 
--- there are eight places
-places : (c : Start) → length c.args.streams ≡ 8
-places c = (omega arith)
+-- the flags of the rows in use
+abbrev flags : (c : At-loop-stream) → List Bool
+flags c = column open_at c.args.count c.args.streams
 
--- the word is a byte
-small : (c : At-loop-i) → c.loop-i.word < 256
+few : (c : At-loop-stream) → (length c.args.streams ≡ 8) × (length (flags c) ≡ c.args.count) × (length (take c.args.count c.args.streams) ≡ c.args.count)
+few c =
+    let k : length c.args.streams ≡ 8 = (omega arith) in
+    (k, length-column open_at c.args.count c.args.streams (omega arith), length-take-le c.args.count c.args.streams (omega arith))
+
+-- the word so far is a byte
+small : (c : At-loop-stream) → c.loop-stream.word < 256
 small c =
-    let k = places c.before in
-    let n = length-column open_at c.args.count c.args.streams (omega arith) in
-    let h = word_small (drop c.loop-i.i (column open_at c.args.count c.args.streams)) (simp length-drop (omega arith)) in
+    let n = few c in
+    let e = c.loop-stream.invariant.1 in
+    let h = word_small (take c.loop-stream.stream-index (flags c)) (omega (arith, length-take c.loop-stream.stream-index (flags c))) in
     omega arith
 
--- with the flag below
-one_more : (c : At-loop-i) → 0 < c.loop-i.i → (b : Bool) → (get_or c.args.streams (c.loop-i.i - 1) past_stream).opened ≡ b
-    → cond b 1 0 + 2 * c.loop-i.word ≡ word_of (drop (c.loop-i.i - 1) (column open_at c.args.count c.args.streams))
-one_more c p b e =
-    let k = places c.before in
-    let flags = column open_at c.args.count c.args.streams in
-    let one : c.loop-i.i - 1 + 1 ≡ c.loop-i.i = omega arith in
-    let w : c.loop-i.word ≡ word_of (drop (c.loop-i.i - 1 + 1) flags) = c.loop-i.invariant.1 ∙ ap (λ (j : ℕ). word_of (drop j flags)) (sym one) in
-    let m = left-more open_at c.args.count c.args.streams past_stream (omega arith) (c.loop-i.i - 1) (omega arith) in
-    sym (ap word_of m ∙ word-cons _ _ ∙ ap (λ (o : Bool). cond o 1 0 + 2 * word_of (drop (c.loop-i.i - 1 + 1) flags)) e ∙ ap (λ (x : ℕ). cond b 1 0 + 2 * x) (sym w))
+-- with the flag of the row at the index
+one_more : (c : At-loop-stream) → c.loop-stream.stream-index < c.args.count → (b : Bool) → (get_or (take c.args.count c.args.streams) c.loop-stream.stream-index past_stream).opened ≡ b
+    → c.loop-stream.word + cond b c.loop-stream.bit 0 ≡ word_of (take (c.loop-stream.stream-index + 1) (flags c))
+one_more c h b e =
+    let n = few c in
+    let i = c.loop-stream.stream-index in
+    let flag : get_or (flags c) i false ≡ b =
+    column-at open_at c.args.count i c.args.streams past_stream h ∙ ap open_at (sym (get_or-take c.args.count c.args.streams i past_stream h)) ∙ e in
+    let more = word-more (flags c) i (omega arith) in
+    let bit = c.loop-stream.invariant.0 in
+    let word = c.loop-stream.invariant.1 in
+    sym (rw flag at (rw (← bit, ← word) at more))
 
-pub loop-i-init : goal.loop-i-init
-loop-i-init c =
-    let k = places (goal.at.loop-i-init c).Start in
-    (omega arith, sym (ap word_of (left-none open_at c.args.count c.args.streams past_stream (omega arith) c.args.count (omega arith)) ∙ word_none))
-
-pub overflow_mul-word : goal.overflow_mul-word
-overflow_mul-word c = omega (arith, small (goal.at.overflow_mul-word c).At-loop-i)
+pub loop-stream-init : goal.loop-stream-init
+loop-stream-init c = (refl, sym word_none)
 
 pub overflow_add-word : goal.overflow_add-word
-overflow_add-word c = omega (arith, small (goal.at.overflow_add-word c).At-loop-i)
+overflow_add-word c =
+    let at = (goal.at.overflow_add-word c).At-loop-stream in
+    let n = few at in
+    let w = small at in
+    let b = bit_small c.loop-stream.stream-index (omega arith) in
+    omega arith
 
-pub loop-i-preserved-then-stream : goal.loop-i-preserved-then-stream
-loop-i-preserved-then-stream c = let e = one_more (goal.at.loop-i-preserved-then-stream c).At-loop-i c.loop-i-test.true true c.if-stream.true in (omega arith, omega arith)
+pub overflow_mul-bit : goal.overflow_mul-bit
+overflow_mul-bit c =
+    let n = few (goal.at.overflow_mul-bit c).At-loop-stream in
+    let b = bit_small c.loop-stream.stream-index (omega arith) in
+    omega arith
 
-pub loop-i-preserved : goal.loop-i-preserved
-loop-i-preserved c = let e = one_more (goal.at.loop-i-preserved c).At-loop-i c.loop-i-test.true false c.if-stream.false in (omega arith, omega arith)
-
-pub returns : goal.returns
-returns c =
-    let n : c.loop-i.i ≡ 0 = omega arith in
-    c.loop-i.invariant.1 ∙ ap (λ (k : ℕ). word_of (drop k (column open_at c.args.count c.args.streams))) n
+pub loop-stream-preserved : goal.loop-stream-preserved
+loop-stream-preserved c =
+    let at = (goal.at.loop-stream-preserved c).At-loop-stream in
+    let n = few at in
+    let in_use : c.loop-stream.stream-index < c.args.count = omega arith in (
+      ap (λ (b : ℕ). b * 2) c.loop-stream.invariant.0 ∙ bit_next c.loop-stream.stream-index,
+      elim c.if-stream.branch [
+        | then-stream w ↦ w.word-is ∙ one_more at in_use true w.if-stream.true
+        | else-stream w ↦ (let e = one_more at in_use false w.if-stream.false in let k : c.loop-stream.word ≡ c.loop-stream.word + 0 = omega arith in w.word-is ∙ k ∙ e)
+      ],
+    )

@@ -1,13 +1,9 @@
-use mathlib.Core.Path.{◌≡◌}
-use Prim.Native.Nat.{◌≤◌}
-use lib.ListN.{drop}
+use Rattle.std.proofs.Common.{◌≡◌, take}
 use Rattle.rules.specs.Open.{word_of}
 use Rattle.any_list.specs.Arrays.{column}
 use Rattle.step_state.specs.Hold.{open_at}
+use Rattle.step_streams.proofs.Bits.{bit_at}
 use Rattle.step_streams.proofs.open_word.Given as goal
 
-abbrev pub invariant-loop-i : goal.invariant-loop-i
-invariant-loop-i l = (l.i ≤ l.count) × (l.word ≡ word_of (drop l.i (column open_at l.count l.streams)))
-
-abbrev pub decreases-loop-i : goal.decreases-loop-i
-decreases-loop-i l = l.i
+abbrev pub invariant-loop-stream : goal.invariant-loop-stream
+invariant-loop-stream l = (l.bit ≡ bit_at l.stream-index) × (l.word ≡ word_of (take l.stream-index (column open_at l.fn.count l.fn.streams)))

@@ -15,7 +15,7 @@ tell_room-requires c = rw c.closed_stream.ensures (ordered-others c.requires)
 pub returns-then-claims-node : goal.returns-then-claims-node
 returns-then-claims-node c =
     c.tell_room.ensures
-    ∙ ap (λ (r : Stream). let l = set c.args.streams (c.args.node - 1) r in room_open (column open_at c.args.count l) (column responses_at c.args.count l)) c.closed_stream.ensures
+    ∙ ap (λ (r : Stream). let l = set c.args.streams.now (c.args.node - 1) r in room_open (column open_at c.args.count l) (column responses_at c.args.count l)) c.closed_stream.ensures
     ∙ sym (room-told c.requires (eq-eqb _ _ c.if-claims-node.true))
 
 pub returns : goal.returns

@@ -12,5 +12,5 @@ head-request-requires c = has-head c.requires
 pub returns : goal.returns
 returns c =
     c.is_taken.ensures
-    ∙ ap (λ (r : Request). taken c.args.node r.id.0 (column id_at c.args.count c.args.claims.ids)) (c.head-request.ensures ∙ head-is c.requires)
+    ∙ ap (λ (r : Request). taken c.args.node r.id.0 (column id_at c.args.count c.args.claims.now.ids)) (c.head-request.ensures ∙ head-is c.requires)
     ∙ collides-is c.requires

@@ -21,11 +21,11 @@ new_is : (c : After-elected_with-next) → c.elected_with-next.result ≡ (claim
 unfolding holding elected hold_held
 new_is c =
     c.elected_with-next.ensures
-    ∙ ap (λ (r : Request). pack_elected (holding c.args.node r.id.0 (elected (column id_at c.args.count c.args.claims.ids)))) (c.head-request.ensures ∙ head-is c.requires)
+    ∙ ap (λ (r : Request). pack_elected (holding c.args.node r.id.0 (elected (column id_at c.args.count c.args.claims.now.ids)))) (c.head-request.ensures ∙ head-is c.requires)
 
 -- the master stays: there is room unless the node's queue is full
-alone : (c : After-elected_with-next) → c.args.claims.elected.master ≡ c.elected_with-next.result.master → (full : Bool) → leb queue_length (get_or c.args.streams (c.args.node - 1) past_stream).responses.len ≡ full
-    → not full ≡ update_room c.args.node (told_of c.args.count c.args.node true c.args.streams c.args.claims)
+alone : (c : After-elected_with-next) → c.args.claims.now.elected.master ≡ c.elected_with-next.result.master → (full : Bool) → leb queue_length (get_or c.args.streams.now (c.args.node - 1) past_stream).responses.len ≡ full
+    → not full ≡ update_room c.args.node (told_of c.args.count c.args.node true c.args.streams.now c.args.claims.now)
 alone c e full q = let p = c.requires in sym (room-one p (shifts-no p _ (new_is c) e) ∙ space p ∙ ap not q)
 
 pub head-request-requires : goal.head-request-requires

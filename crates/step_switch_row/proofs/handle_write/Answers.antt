@@ -1,5 +1,6 @@
 use mathlib.Core.Path.{◌≡◌, sym, ap, ap₂, ◌∙◌}
-use mathlib.Core.Bool.{Bool, true, false}
+use mathlib.Core.Bool.{Bool}
+use Rattle.std.specs.Prelude.{Some, None}
 use Prim.Native.Nat.{◌-◌}
 use lib.ListN.{get_or}
 use Rattle.step_parts.specs.declared.Request.{Request}
@@ -25,11 +26,11 @@ accepts-requires c = let at = c.requires.head.at in (at.from, at.upto)
 
 pub returns-then-accepts : goal.returns-then-accepts
 returns-then-accepts c =
-    ap₂ {C = Handled} (λ (s : Stream) (t : Term). record { stream = s; last = get_or c.args.claims.terms (c.args.node - 1) (record { 0 = 0 }); accepted = true; term = t })
-    (c.respond-next.ensures ∙ ap₂ responded c.written.ensures c.without_head-row.ensures) (ap (λ (r : Request). r.term) c.head-request.ensures)
+    ap₂ {C = Handled} (λ (s : Stream) (t : Term). record { stream = s; last = get_or c.args.claims.terms (c.args.node - 1) (record { 0 = 0 }); accepted = Some (record { node = c.args.node; term = t }) })
+    (c.respond.ensures ∙ ap₂ responded c.written.ensures c.without_head-row.ensures) (ap (λ (r : Request). r.term) c.head-request.ensures)
     ∙ accepted c.requires (judges (goal.at.returns-then-accepts c).After-accepts _ c.if-accepts.true)
 
 pub returns : goal.returns
 returns c =
-    ap {B = Handled} (λ (s : Stream). record { stream = s; last = c.args.claims.last; accepted = false; term = record { 0 = 0 } }) (c.respond-next-2.ensures ∙ ap₂ responded c.written-2.ensures c.without_head-row.ensures)
+    ap {B = Handled} (λ (s : Stream). record { stream = s; last = c.args.claims.last; accepted = None }) (c.respond-2.ensures ∙ ap₂ responded c.written-2.ensures c.without_head-row.ensures)
     ∙ denied c.requires (judges (goal.at.returns c).After-accepts _ c.if-accepts.false)

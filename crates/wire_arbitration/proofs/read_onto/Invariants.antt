@@ -1,4 +1,3 @@
-use mathlib.Core.Path.{◌≡◌}
 use Prim.Native.Nat.{◌-◌}
 use lib.ListN.{length}
 use Rattle.wire_fields.specs.Walking.{Walking}
@@ -6,7 +5,7 @@ use Rattle.wire_arbitration.specs.Raw.{see}
 use Rattle.wire_arbitration.proofs.read_onto.Given as goal
 
 abbrev pub invariant-loop-at : goal.invariant-loop-at
-invariant-loop-at l = Walking see l.message l.initial.u l.u l.at × (l.u.code ≡ 0)
+invariant-loop-at l = Walking see l.message l.initial.u l.u l.at
 
 abbrev pub decreases-loop-at : goal.decreases-loop-at
 decreases-loop-at l = length l.message - l.at

@@ -5,7 +5,7 @@ use Rattle.wire_arbitration.specs.Raw.{see_two}
 use Rattle.wire_arbitration.proofs.read_pair.Given as goal
 
 abbrev pub invariant-loop-at : goal.invariant-loop-at
-invariant-loop-at l = Walking see_two l.part (record { first = l.first; second = l.second }) (record { first = l.a; second = l.b }) l.at
+invariant-loop-at l = Walking see_two l.part l.initial.pair l.pair l.at
 
 abbrev pub decreases-loop-at : goal.decreases-loop-at
 decreases-loop-at l = length l.part - l.at

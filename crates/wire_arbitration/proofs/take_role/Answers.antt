@@ -1,16 +1,12 @@
-use mathlib.Core.Path.{◌∙◌}
+use Rattle.std.proofs.lemmas.Result.{err_from_is_err_and}
 use Rattle.wire_arbitration.specs.Raw.{with_role}
 use Rattle.wire_arbitration.specs.Seeing.{sees-one, loses-one}
 use Rattle.wire_arbitration.proofs.take_role.Goals as goal
 
-pub returns-then-read-eq-READ : goal.returns-then-read-eq-READ
-returns-then-read-eq-READ c =
-    let a = c.args in
-    let read = c.read_pair-read in
-    sees-one (record { first = a.u.id; second = 0 }) a.part.now read.result read.ensures (with_role a.u) c.if-read-eq-READ.true
+pub returns-in_err-read : goal.returns-in_err-read
+returns-in_err-read c =
+    let p = err_from_is_err_and c.from_residual.result c.from_residual.ensures.1 in
+    rw (p.1, p.2) (loses-one _ _ (with_role c.args.u) _ c.in_err-read.ensures)
 
 pub returns : goal.returns
-returns c =
-    let a = c.args in
-    let read = c.read_pair-read in
-    c.refused.ensures ∙ loses-one (record { first = a.u.id; second = 0 }) a.part.now read.result read.ensures (with_role a.u) c.if-read-eq-READ.false
+returns c = sees-one _ _ (with_role c.args.u) _ c.in_ok-read.ensures

@@ -4,17 +4,17 @@ use Rattle.wire_bytes.specs.Reporting.{field-bytes-length, fields-put, reports-f
 use Rattle.wire_bytes.proofs.read_into.Goals as goal
 
 pub put_fields-requires : goal.put_fields-requires
-put_fields-requires c = record { enough = let n = field-bytes-length c.read_raw-read.result in omega arith }
+put_fields-requires c = record { enough = let n = field-bytes-length c.in-Ok.field-0 in omega arith }
 
-pub returns-then-fields-ge-FIELD_BYTES : goal.returns-then-fields-ge-FIELD_BYTES
-returns-then-fields-ge-FIELD_BYTES c =
+pub returns-in-Err : goal.returns-in-Err
+returns-in-Err c = let all = reported-both (reports-fault c.args.message.now c.args.fields.now _ c.in-Err.ensures) in (c.number.ensures ∙ all.0, all.1)
+
+pub returns-in-Ok : goal.returns-in-Ok
+returns-in-Ok c = reported-both (reports-short _ _ _ c.in-Ok.ensures c.if-fields-lt-FIELD_BYTES.true)
+
+pub returns-in-Ok-2 : goal.returns-in-Ok-2
+returns-in-Ok-2 c =
     let a = c.args in
-    let read = c.read_raw-read in
-    let all = reported-both (reports-fields _ a.fields.now _ read.ensures c.if-read-eq-READ.true (omega arith)) in
-    (all.0, fields-put read.result a.fields.now _ _ (omega arith) c.put_fields.ensures ∙ all.1)
-
-pub returns-then-read-eq-READ : goal.returns-then-read-eq-READ
-returns-then-read-eq-READ c = reported-both (reports-short _ _ _ c.read_raw-read.ensures c.if-read-eq-READ.true (omega arith))
-
-pub returns : goal.returns
-returns c = reported-both (reports-fault _ _ _ c.read_raw-read.ensures c.if-read-eq-READ.false)
+    let room = c.if-fields-lt-FIELD_BYTES.false in
+    let all = reported-both (reports-fields a.message.now a.fields.now _ c.in-Ok.ensures room) in
+    (all.0, fields-put c.in-Ok.field-0 a.fields.now _ _ room c.put_fields.ensures ∙ all.1)

@@ -1,23 +1,25 @@
-use mathlib.Core.Path.{◌∙◌}
-use borrow.Author.Rules.{rules}
-use Rattle.wire_fields.specs.Fields.{part_as}
-use Rattle.wire_fields.specs.Found.{found-number, no_number, first_found, seen-inside, no-number-no-field, with_number}
+use mathlib.Core.Path.{sym, ◌∙◌}
+use Rattle.std.proofs.lemmas.Result.{err_from_is_err_and}
+use Rattle.wire_fields.specs.Numbers.{taken}
+use Rattle.wire_fields.specs.Fields.{bytes, part_as}
+use Rattle.wire_fields.specs.Found.{found-number, no-number-no-field, with_number, part_field, no-part-no-field}
 use Rattle.wire_fields.proofs.read_bytes.Goals as goal
 
-pub overflow_add-at : goal.overflow_add-at
-overflow_add-at c = let inside = seen-inside _ _ _ c.first_byte-byte.ensures c.if-byte-lt128.true in search rules
+pub returns-in_err-size : goal.returns-in_err-size
+returns-in_err-size c =
+    let p = err_from_is_err_and c.from_residual.result c.from_residual.ensures.1 in
+    rw (p.1, p.2) (no-number-no-field _ _ _ (sym c.in_err-size.ensures) (part_as _))
 
-pub read_part-requires : goal.read_part-requires
-read_part-requires c = seen-inside _ _ _ c.first_byte-byte.ensures c.if-byte-lt128.true
+pub behind-requires : goal.behind-requires
+behind-requires c = (found-number _ _ _ (sym c.in_ok-size.ensures)).inside
 
-pub returns-then-byte-lt128 : goal.returns-then-byte-lt128
-returns-then-byte-lt128 c = c.read_part.ensures ∙ with_number _ _ _ (first_found _ _ _ c.first_byte-byte.ensures c.if-byte-lt128.true) (part_as _)
-
-pub read_part-requires-then-size-eq-READ : goal.read_part-requires-then-size-eq-READ
-read_part-requires-then-size-eq-READ c = (found-number _ _ _ c.read_number-size.ensures c.if-size-eq-READ.true).inside
-
-pub returns-then-size-eq-READ : goal.returns-then-size-eq-READ
-returns-then-size-eq-READ c = c.read_part-then-size-eq-READ.ensures ∙ with_number _ _ _ (found-number _ _ _ c.read_number-size.ensures c.if-size-eq-READ.true) (part_as _)
+pub returns-in_err-next : goal.returns-in_err-next
+returns-in_err-next c =
+    let p = err_from_is_err_and c.from_residual-in_err-next.result c.from_residual-in_err-next.ensures.1 in
+    rw (p.1, p.2) (no-part-no-field _ _ _ (sym c.in_err-next.ensures) (λ held rest. taken (bytes _ held) rest)
+    ∙ with_number _ _ _ (found-number _ _ _ (sym c.in_ok-size.ensures)) (part_as _))
 
 pub returns : goal.returns
-returns c = c.no_field.ensures ∙ no-number-no-field _ _ _ (no_number _ _ _ c.read_number-size.ensures c.if-size-eq-READ.false) (part_as _)
+returns c =
+    let size = found-number _ _ _ (sym c.in_ok-size.ensures) in
+    part_field _ _ _ size.inside _ (sym c.in_ok-next.ensures) _ ∙ with_number _ _ _ size (part_as _)

@@ -1,3 +1,4 @@
+use mathlib.Core.Path.{refl}
 use borrow.Author.Tests.{ne_eqb}
 use Rattle.wire_fields.specs.Fields.{content}
 use Rattle.wire_fields.proofs.read_content.Goals as goal
@@ -22,4 +23,4 @@ pub returns-in_default : goal.returns-in_default
 unfolding content
 returns-in_default c =
     let none = c.in_default.in_default-own.rest in
-    simp (ne_eqb _ _ none.0.0.0.1, ne_eqb _ _ none.0.0.1, ne_eqb _ _ none.0.1, ne_eqb _ _ none.1) c.no_field.ensures
+    simp (ne_eqb _ _ none.0.0.0.1, ne_eqb _ _ none.0.0.1, ne_eqb _ _ none.0.1, ne_eqb _ _ none.1) refl

@@ -1,18 +1,14 @@
-use mathlib.Core.Path.{◌∙◌}
-use borrow.Author.Rules.{rules}
+use mathlib.Core.Path.{sym}
+use Rattle.std.proofs.lemmas.Result.{err_from_is_err_and}
 use Rattle.wire_fields.specs.Numbers.{taken}
 use Rattle.wire_fields.specs.Fields.{varint}
-use Rattle.wire_fields.specs.Found.{found-number, no_number, first_found, seen-inside, no-number-no-field, varint-field}
+use Rattle.wire_fields.specs.Found.{found-number, no-number-no-field, varint-field}
 use Rattle.wire_fields.proofs.read_varint.Goals as goal
 
-pub overflow_add-result : goal.overflow_add-result
-overflow_add-result c = let inside = seen-inside _ _ _ c.first_byte-byte.ensures c.if-byte-lt128.true in search rules
-
-pub returns-then-byte-lt128 : goal.returns-then-byte-lt128
-returns-then-byte-lt128 c = varint-field _ _ _ _ (first_found _ _ _ c.first_byte-byte.ensures c.if-byte-lt128.true)
-
-pub returns-then-read-eq-READ : goal.returns-then-read-eq-READ
-returns-then-read-eq-READ c = varint-field _ _ _ _ (found-number _ _ _ c.read_number-read.ensures c.if-read-eq-READ.true)
+pub returns-in_err-read : goal.returns-in_err-read
+returns-in_err-read c =
+    let p = err_from_is_err_and c.from_residual.result c.from_residual.ensures.1 in
+    rw (p.1, p.2) (no-number-no-field _ _ _ (sym c.in_err-read.ensures) (λ value rest. taken (varint _ value) rest))
 
 pub returns : goal.returns
-returns c = c.no_field.ensures ∙ no-number-no-field _ _ _ (no_number _ _ _ c.read_number-read.ensures c.if-read-eq-READ.false) (λ value rest. taken (varint _ value) rest)
+returns c = varint-field _ _ _ (found-number _ _ _ (sym c.in_ok-read.ensures)) _

@@ -1,31 +1,14 @@
-use mathlib.Core.Path.{sym}
+use mathlib.Core.Path.{sym, ◌∙◌}
 use native.Mathlib.Omega.{arith}
-use Rattle.wire_frames.specs.Framing.{held_none, held-compressed, held-said}
+use Rattle.std.proofs.Common.{rules}
+use Rattle.wire_frames.specs.Framing.{held_none, held-compressed, held-said, said_length}
 use Rattle.wire_frames.proofs.held_length.Goals as goal
 
-pub returns-then-bytes-lt-HEAD : goal.returns-then-bytes-lt-HEAD
-returns-then-bytes-lt-HEAD c = sym (held_none _ c.if-bytes-lt-HEAD.true)
+pub returns-in-0 : goal.returns-in-0
+returns-in-0 c = c.from_be_bytes.ensures ∙ said_length c.args.bytes.now _ _ _ _ ∙ sym (held-said _ (omega arith) (search rules))
 
-pub returns-then-bytes-ne0 : goal.returns-then-bytes-ne0
-returns-then-bytes-ne0 c = sym (held-compressed _ c.if-bytes-lt-HEAD.false c.if-bytes-ne0.true)
+pub returns-in_default : goal.returns-in_default
+returns-in_default c = sym (held_none _ (omega arith))
 
-pub overflow_mul-high : goal.overflow_mul-high
-overflow_mul-high c = omega (arith, c.type_inv.bytes 1)
-
-pub overflow_add-high : goal.overflow_add-high
-overflow_add-high c = omega (arith, c.type_inv.bytes 1, c.type_inv.bytes 2)
-
-pub overflow_mul-low : goal.overflow_mul-low
-overflow_mul-low c = omega (arith, c.type_inv.bytes 3)
-
-pub overflow_add-low : goal.overflow_add-low
-overflow_add-low c = omega (arith, c.type_inv.bytes 3, c.type_inv.bytes 4)
-
-pub overflow_mul-result : goal.overflow_mul-result
-overflow_mul-result c = omega (arith, c.type_inv.bytes 1, c.type_inv.bytes 2)
-
-pub overflow_add-result : goal.overflow_add-result
-overflow_add-result c = omega (arith, c.type_inv.bytes 1, c.type_inv.bytes 2, c.type_inv.bytes 3, c.type_inv.bytes 4)
-
-pub returns : goal.returns
-returns c = let said = held-said c.args.bytes.now c.if-bytes-lt-HEAD.false (omega arith) in omega arith
+pub returns-in_default-2 : goal.returns-in_default-2
+returns-in_default-2 c = sym (held-compressed _ (omega arith) (search rules))

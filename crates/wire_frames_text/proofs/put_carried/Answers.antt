@@ -1,43 +1,25 @@
+use Rattle.std.proofs.Common.{rules}
 use native.Mathlib.Omega.{arith}
-use Rattle.any_text.specs.Puts.{put-length, put_then}
-use Rattle.wire_text.specs.Widths.{field-lines-width}
 use Rattle.wire_frames_text.specs.Showing.{shows_nothing, shows-arbitration, shows-packet, shows-field}
 use Rattle.wire_frames_text.proofs.put_carried.Goals as goal
 
-pub put_fields-requires : goal.put_fields-requires
-put_fields-requires c =
-    let r = c.args.frame.fields in
-    let wide = field-lines-width r (omega arith) (omega arith) (omega arith) (omega arith) in
-    let put = c.put_word-next.ensures in
-    let same = put-length put in
-    let at = put.place in
-    record { enough = omega arith }
-
-pub returns-in-0 : goal.returns-in-0
-returns-in-0 c =
+pub returns-in-Nothing : goal.returns-in-Nothing
+returns-in-Nothing c =
     let put = c.put_word.ensures in
     let at = put.place in
-    (rw (shows_nothing c.args.frame c.in-0.is) put, omega arith)
+    (rw (c.in-Nothing.is, shows_nothing) put, omega arith)
 
-pub returns-in-1 : goal.returns-in-1
-returns-in-1 c =
-    let r = c.args.frame.fields in
-    let wide = field-lines-width r (omega arith) (omega arith) (omega arith) (omega arith) in
-    let word = c.put_word-next.ensures in
-    let fields = c.put_fields.ensures in
-    let at = word.place in
-    let end = fields.place in
-    (rw (shows-arbitration c.args.frame c.in-1.is) (put_then word fields), omega arith)
+pub returns-in-Arbitration : goal.returns-in-Arbitration
+returns-in-Arbitration c = let put = c.put_arbitration.ensures in (rw (c.in-Arbitration.is, shows-arbitration c.in-Arbitration.fields) put.0, put.1)
 
-pub returns-in-2 : goal.returns-in-2
-returns-in-2 c =
-    let put = c.put_word-in-2.ensures in
+pub returns-in-Other-eq2 : goal.returns-in-Other-eq2
+returns-in-Other-eq2 c =
+    let put = c.put_word-in-Other-eq2.ensures in
     let at = put.place in
-    (rw (shows-packet c.args.frame c.in-2.is) put, omega arith)
+    (rw (c.in-Other-eq2.is, shows-packet c.in-Other-eq2.field-0 (omega arith)) put, omega arith)
 
-pub returns-in_default : goal.returns-in_default
-returns-in_default c =
-    let other = c.in_default.in_default-own.rest in
+pub returns-in-Other : goal.returns-in-Other
+returns-in-Other c =
     let put = c.put_line.ensures in
     let end = put.1 in
-    (rw (shows-field c.args.frame other.0.0.1 other.0.1 other.1) put.0, omega arith)
+    (rw (c.in-Other.is, shows-field c.in-Other.number (search rules)) put.0, omega arith)

@@ -1,31 +1,30 @@
-use mathlib.Core.Path.{refl, sym}
-use mathlib.Core.Bool.{true}
-use Prim.Native.Nat.{◌-◌}
-use native.Mathlib.Omega.{arith}
+use Rattle.std.proofs.Common.{ℕ, Bool, refl, sym, arith}
 use Rattle.rules.specs.Range.{each}
 use Rattle.step_state.specs.Order.{past_controller}
 use Rattle.step_range_queues.specs.Tests.{place}
 use Rattle.step_range_queues.specs.Each.{from-result, each_more, each-not, each_all}
 use Rattle.step_range.specs.Tests.{controller_test, blank_controller_test, controllers_test}
 use Rattle.step_range.proofs.controllers.controllers_fit.Goals as goal
+use Rattle.step_range.proofs.controllers.controllers_fit.Goals.{Start}
+
+abbrev row-fits : Start → ℕ → Bool
+row-fits c = place (controller_test c.args.count) blank_controller_test past_controller c.args.core.controllers c.args.count
 
 pub loop-i-init : goal.loop-i-init
 unfolding each
-loop-i-init c = (omega arith, refl)
+loop-i-init c = refl
 
 pub loop-i-preserved : goal.loop-i-preserved
 loop-i-preserved c =
-    let a = c.args in
-    (omega arith, each_more (place (controller_test a.count) blank_controller_test past_controller a.core.controllers a.count) c.loop-i.i c.loop-i.invariant.1 (from-result {given = place (controller_test a.count) blank_controller_test past_controller a.core.controllers a.count c.loop-i.i} c.controller_fits.ensures c.if-controller_fits.true))
+    let fits = row-fits (goal.at.loop-i-preserved c).Start in
+    each_more fits c.loop-i.i c.loop-i.invariant (from-result {given = fits c.loop-i.i} c.controller_fits.ensures c.if-not-controller_fits.false)
 
-pub returns-else-controller_fits : goal.returns-else-controller_fits
+pub returns-then-not-controller_fits : goal.returns-then-not-controller_fits
 unfolding controllers_test
-returns-else-controller_fits c =
-    let a = c.args in
-    sym (each-not (place (controller_test a.count) blank_controller_test past_controller a.core.controllers a.count) 8 c.loop-i.i (omega arith) (from-result {given = place (controller_test a.count) blank_controller_test past_controller a.core.controllers a.count c.loop-i.i} c.controller_fits.ensures c.if-controller_fits.false))
+returns-then-not-controller_fits c =
+    let fits = row-fits (goal.at.returns-then-not-controller_fits c).Start in
+    sym (each-not fits 8 c.loop-i.i (omega arith) (from-result {given = fits c.loop-i.i} c.controller_fits.ensures c.if-not-controller_fits.true))
 
 pub returns : goal.returns
 unfolding controllers_test
-returns c =
-    let a = c.args in
-    each_all (place (controller_test a.count) blank_controller_test past_controller a.core.controllers a.count) 8 c.loop-i.i (omega arith) c.loop-i.invariant.1
+returns c = each_all (row-fits (goal.at.returns c).Start) 8 c.loop-i.i (omega arith) c.loop-i.invariant

@@ -1,5 +1,4 @@
-use mathlib.Core.Path.{refl}
-use native.Mathlib.Omega.{arith}
+use Rattle.std.proofs.Common.{refl, arith}
 use Rattle.rules.specs.Range.{each}
 use Rattle.any_list.specs.Tests.{tests}
 use Rattle.step_range_queues.specs.Tests.{backup_place, backups_test}
@@ -12,21 +11,20 @@ returns-then-m-gt-MOST_BACKUPS c = search tests
 
 pub loop-i-init : goal.loop-i-init
 unfolding each
-loop-i-init c = (omega arith, refl)
+loop-i-init c = refl
 
 pub loop-i-preserved : goal.loop-i-preserved
 loop-i-preserved c =
-    let a = c.args in
-    (omega arith, each_more (backup_place a.count a.m) c.loop-i.i c.loop-i.invariant.1 (from-result c.backup_fits.ensures c.if-backup_fits.true))
+    each_more (backup_place c.args.count c.args.m) c.loop-i.i c.loop-i.invariant (from-result c.backup_fits.ensures c.if-not-backup_fits.false)
 
-pub returns-else-backup_fits : goal.returns-else-backup_fits
+pub returns-then-not-backup_fits : goal.returns-then-not-backup_fits
 unfolding backups_test
-returns-else-backup_fits c =
+returns-then-not-backup_fits c =
     let a = c.args in
-    places-not (backup_place a.count a.m) 7 a.m.len c.if-m-gt-MOST_BACKUPS.false c.loop-i.i (omega arith) (from-result c.backup_fits.ensures c.if-backup_fits.false)
+    places-not (backup_place a.count a.m) 7 a.m.len c.if-m-gt-MOST_BACKUPS.false c.loop-i.i (omega arith) (from-result c.backup_fits.ensures c.if-not-backup_fits.true)
 
 pub returns : goal.returns
 unfolding backups_test
 returns c =
     let a = c.args in
-    places-all (backup_place a.count a.m) 7 a.m.len c.if-m-gt-MOST_BACKUPS.false c.loop-i.i (omega arith) c.loop-i.invariant.1
+    places-all (backup_place a.count a.m) 7 a.m.len c.if-m-gt-MOST_BACKUPS.false c.loop-i.i (omega arith) c.loop-i.invariant
