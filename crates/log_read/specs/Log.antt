@@ -113,4 +113,4 @@ abbrev pub row_of : Record → Row
 row_of r = record { line = r.line; logged = record { log = r.log; time = r.time; event = record { kind = r.kind; node = r.node } } }
 
 abbrev pub log_of : Reading → Result Log Refused
-log_of r = cond (eqb r.refused 0) (Ok (record { nodes = r.nodes; bound = r.bound; records = length r.rows })) (Err (record { line = r.refused }))
+log_of r = cond (eqb r.refused 0) (Ok (record { nodes = r.nodes; bound = r.bound; records = length r.rows })) (Err (record { line = r.refused; nodes = r.nodes; bound = r.bound; records = length r.rows }))

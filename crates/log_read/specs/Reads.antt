@@ -3,7 +3,7 @@ use Rattle.std.specs.Prelude.{◌≡◌, ◌≢◌, refl, Bool, true, false, con
 use Rattle.std.specs.Option.{is_some}
 use Rattle.std.specs.List.{slice_split, enumerate_from}
 use Rattle.std.proofs.lemmas.List.FromFn.{length-enumerate_from, get_or-enumerate_from}
-use Rattle.std.proofs.Math.Path.{sym, ap}
+use Rattle.std.proofs.Math.Path.{sym, ap, ap₂}
 use Rattle.std.proofs.Common.{◌∙◌, true≢false, add-one, arith, drop-cons, drop_of_length-le, append_assoc, append-nil, length-append, lt-ltb, le-leb}
 use Rattle.std.proofs.Math.Dec.{eqb-suc-zero}
 use Rattle.std.proofs.lemmas.List.{length-map, map-append}
@@ -121,6 +121,11 @@ pub going-starts : (text : List ℕ) (before : List Record) → Going text befor
 unfolding read_text
 going-starts text before = record { done = []; few = omega arith; counted = refl; put = refl; none = λ e. refl; going = refl }
 
+-- The refusal of a line, behind what the first line says, if it was read, and that many records.
+abbrev pub refused_at : ℕ → Option Head → ℕ → Refused
+refused_at line None records = record { line = line; nodes = 0; bound = 0; records = records }
+refused_at line (Some h) records = record { line = line; nodes = h.nodes; bound = h.bound; records = records }
+
 -- What a reading of the text leaves.
 pub record ReadAll (text : List ℕ) (before after : List Record) (r : Result Log Refused) : Type 0 where
   pub log : r ≡ log_of (read_text text)
@@ -143,7 +148,7 @@ module _ {text : List ℕ} {before records : List Record} {head : Option Head} {
       all-read (ap (λ (o : Option Head). from o g.done count i []) (sym e) ∙ over k) (append-nil g.done)
       (ap (λ (n : ℕ). Ok (record { nodes = h.nodes; bound = h.bound; records = n })) (g.counted ∙ ap length (sym (append-nil g.done))))
 
-  pub going-empty : head ≡ None → length (lines text) ≤ i → ReadAll text before records (Err (record { line = 1 }))
+  pub going-empty : head ≡ None → length (lines text) ≤ i → ReadAll text before records (Err (refused_at 1 None 0))
   going-empty e k = all-read (ap (λ (o : Option Head). from o g.done count i []) (sym e) ∙ over k) (sym (g.none e)) refl
 
   module _ {n : ℕ} {l : List ℕ} (t : Turn text i n l) where
@@ -202,28 +207,33 @@ module _ {text : List ℕ} {before records : List Record} {head : Option Head} {
         go (Some h) f = with-record q e f a b c
 
     -- The line is refused.
-    pub going-stops : (head ≡ None → head_on (line_of l) ≡ no_head false) → (head ≢ None → fits count (line_of l) ≡ false) → ReadAll text before records (Err (record { line = n + 1 }))
+    pub going-stops : (head ≡ None → head_on (line_of l) ≡ no_head false) → (head ≢ None → fits count (line_of l) ≡ false) → ReadAll text before records (Err (refused_at (n + 1) head count))
     unfolding ls stopped
     going-stops f k = go head refl
       where
-        go : (o : Option Head) → head ≡ o → ReadAll text before records (Err (record { line = n + 1 }))
-        go None e = all-read (sym (ap (stopped g.done count i l ls) e) ∙ sym (from-stops g.done count i l ls head f k) ∙ here) (sym (g.none e)) (rw (t.number, add-one i, eqb-suc-zero i))
-        go (Some h) e = all-read (sym (ap (stopped g.done count i l ls) e) ∙ sym (from-stops g.done count i l ls head f k) ∙ here) (append-nil g.done) (rw (t.number, add-one i, eqb-suc-zero i))
+        go : (o : Option Head) → head ≡ o → ReadAll text before records (Err (refused_at (n + 1) head count))
+        go None e =
+            let zero : count ≡ 0 = g.counted ∙ ap length (g.none e) in
+            all-read (sym (ap (stopped g.done count i l ls) e) ∙ sym (from-stops g.done count i l ls head f k) ∙ here) (sym (g.none e))
+            (ap₂ (λ (o : Option Head) (m : ℕ). Err (refused_at (n + 1) o m)) e zero ∙ rw (t.number, add-one i, eqb-suc-zero i))
+        go (Some h) e =
+            all-read (sym (ap (stopped g.done count i l ls) e) ∙ sym (from-stops g.done count i l ls head f k) ∙ here) (append-nil g.done)
+            (ap₂ (λ (o : Option Head) (m : ℕ). Err (refused_at (n + 1) o m)) e (g.counted ∙ ap length (sym (append-nil g.done))) ∙ rw (t.number, add-one i, eqb-suc-zero i))
 
-    pub stops-two : {a b : ℕ} → line_of l ≡ Two a b → is_some head ≡ true → ReadAll text before records (Err (record { line = n + 1 }))
+    pub stops-two : {a b : ℕ} → line_of l ≡ Two a b → is_some head ≡ true → ReadAll text before records (Err (refused_at (n + 1) head count))
     stops-two e o = going-stops (λ z. absurd (a-head head o z)) (λ z. ap (fits count) e)
 
-    pub stops-nodes : {a b : ℕ} → line_of l ≡ Two a b → leb 1 a && leb a 8 ≡ false → ReadAll text before records (Err (record { line = n + 1 }))
+    pub stops-nodes : {a b : ℕ} → line_of l ≡ Two a b → leb 1 a && leb a 8 ≡ false → ReadAll text before records (Err (refused_at (n + 1) head count))
     unfolding within
     stops-nodes e f = going-stops (λ z. ap head_on e ∙ rw f) (λ z. ap (fits count) e)
 
-    pub stops-four : {a b c d : ℕ} → line_of l ≡ Four a b c d → is_some head ≡ false → ReadAll text before records (Err (record { line = n + 1 }))
+    pub stops-four : {a b c d : ℕ} → line_of l ≡ Four a b c d → is_some head ≡ false → ReadAll text before records (Err (refused_at (n + 1) head count))
     stops-four e o = going-stops (λ z. ap head_on e) (λ z. absurd (z (no-head head o)))
 
-    pub stops-record : {a b c d : ℕ} → line_of l ≡ Four a b c d → ltb count most_records && leb c 255 && leb d 255 ≡ false → ReadAll text before records (Err (record { line = n + 1 }))
+    pub stops-record : {a b c d : ℕ} → line_of l ≡ Four a b c d → ltb count most_records && leb c 255 && leb d 255 ≡ false → ReadAll text before records (Err (refused_at (n + 1) head count))
     stops-record e f = going-stops (λ z. ap head_on e) (λ z. ap (fits count) e ∙ f)
 
-    pub stops-other : line_of l ≡ Other → ReadAll text before records (Err (record { line = n + 1 }))
+    pub stops-other : line_of l ≡ Other → ReadAll text before records (Err (refused_at (n + 1) head count))
     stops-other e = going-stops (λ z. ap head_on e) (λ z. ap (fits count) e)
 
 -- A test that one part fails.

@@ -6,6 +6,7 @@ ghost use Rattle.std.specs.Prelude.{◌≡◌, Some, ◌≤◌, length, map};
 ghost use Rattle.std.proofs.lemmas.List.Edits.{sets};
 ghost use Rattle.log_read.specs.Line.{sorted, line_of};
 ghost use Rattle.log_read.specs.Log.{longest_text, read_text, record_of, log_of};
+ghost use Rattle.log_read.specs.Reads.{refused_at};
 
 // The most bytes that a text has.
 pub const LONGEST: usize = 2097152;
@@ -50,10 +51,14 @@ pub struct Log {
     pub records: usize,
 }
 
-// The number of the line for which a log is refused.
+// Why a log is refused: the line, and what was read before it.
+// All 0 beside the line where the first line that says something is refused, or no line says anything.
 #[derive(Clone, Copy)]
 pub struct Refused {
     pub line: usize,
+    pub nodes: u8,
+    pub bound: u64,
+    pub records: usize,
 }
 
 // A line: no words, two or four numbers, or none of these.
@@ -102,6 +107,26 @@ fn line_of(line: &[u8]) -> Line
 
 // ---- records
 
+// The refusal of a line, behind what the first line says, if it was read, and that many records.
+fn refused_at(line: usize, head: Option<Head>, records: usize) -> Refused
+    ensures { result ≡ refused_at line head records }
+{
+    match head {
+        Some(Head { nodes, bound }) => Refused {
+            line,
+            nodes,
+            bound,
+            records,
+        },
+        None => Refused {
+            line,
+            nodes: 0,
+            bound: 0,
+            records,
+        },
+    }
+}
+
 // Reads a text, and puts its records at the front of those that are lent, as far as its lines are good.
 pub fn read_log(text: &[u8], records: &mut [Record; MOST_RECORDS]) -> Result<Log, Refused>
     requires { length text.now ≤ longest_text }
@@ -130,7 +155,7 @@ pub fn read_log(text: &[u8], records: &mut [Record; MOST_RECORDS]) -> Result<Log
                 };
                 count += 1;
             }
-            _ => return Err(Refused { line: i + 1 }),
+            _ => return Err(refused_at(i + 1, head, count)),
         }
     }
     match head {
@@ -139,6 +164,6 @@ pub fn read_log(text: &[u8], records: &mut [Record; MOST_RECORDS]) -> Result<Log
             bound,
             records: count,
         }),
-        None => Err(Refused { line: 1 }),
+        None => Err(refused_at(1, None, 0)),
     }
 }

@@ -46,14 +46,14 @@ pub record Good (t : Reading) (log : Log) : Type 0 where
 pub said-good : (t : Reading) {log : Log} → Ok log ≡ log_of t → Good t log
 said-good t {log} e = go (eqb t.refused 0) refl e
   where
-    go : (b : Bool) → eqb t.refused 0 ≡ b → ◌≡◌ {A = Result Log Refused} (Ok log) (cond b (Ok (record { nodes = t.nodes; bound = t.bound; records = length t.rows })) (Err (record { line = t.refused }))) → Good t log
+    go : (b : Bool) → eqb t.refused 0 ≡ b → ◌≡◌ {A = Result Log Refused} (Ok log) (cond b (Ok (record { nodes = t.nodes; bound = t.bound; records = length t.rows })) (Err (record { line = t.refused; nodes = t.nodes; bound = t.bound; records = length t.rows }))) → Good t log
     go true i u = record { good = eqb-true _ _ i; is = cc }
     go false i u = absurd (cc)
 
 pub said-refused : (t : Reading) {r : Refused} → Err r ≡ log_of t → (t.refused ≢ 0) × (r.line ≡ t.refused)
 said-refused t {r} e = go (eqb t.refused 0) refl e
   where
-    go : (b : Bool) → eqb t.refused 0 ≡ b → ◌≡◌ {A = Result Log Refused} (Err r) (cond b (Ok (record { nodes = t.nodes; bound = t.bound; records = length t.rows })) (Err (record { line = t.refused }))) → (t.refused ≢ 0) × (r.line ≡ t.refused)
+    go : (b : Bool) → eqb t.refused 0 ≡ b → ◌≡◌ {A = Result Log Refused} (Err r) (cond b (Ok (record { nodes = t.nodes; bound = t.bound; records = length t.rows })) (Err (record { line = t.refused; nodes = t.nodes; bound = t.bound; records = length t.rows }))) → (t.refused ≢ 0) × (r.line ≡ t.refused)
     go true i u = absurd (cc)
     go false i u = (eqb-false _ _ i, cc)
 
