@@ -156,7 +156,7 @@ extern "C" {
  * Returns, if it is refused: one of the five refusals above, and `out` stays as
  * it was. The bytes of `list` are never changed.
  *
- * The call takes about 26 KB of stack. */
+ * The call takes about 20 KB of stack. */
 uint32_t hoefspanker_run(const uint8_t *list, size_t list_len,
                          uint8_t *out, size_t out_len);
 

@@ -34,9 +34,12 @@ pub fn put_word(buf: &mut [u8], at: usize, word: &[u8]) -> usize
     requires { Room buf.old at word.now }
     ensures { Put buf.old at word.now buf.new result }
 {
-    let end = at + word.len();
-    buf[at..end].copy_from_slice(word);
-    end
+    // Not by `copy_from_slice`: for it the archive for C hosts would need `memmove` from outside.
+    let mut next = at;
+    for byte in word {
+        next = put_byte(buf, next, *byte);
+    }
+    next
 }
 
 // Numbers, each behind a blank, and the end of the line.

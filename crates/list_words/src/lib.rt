@@ -19,6 +19,9 @@ pub enum Line {
 
 // ---- names
 
+// The most bytes of a name.
+pub const LONGEST_NAME: usize = 14;
+
 // The name of a kind, which is empty where there is no such kind.
 #[tactic(auto, unfolding(crate::specs::Names::names))]
 pub fn name_of(kind: u8) -> &'static [u8]

@@ -7,9 +7,11 @@ ghost use Rattle.rules.specs.Step.{kind_of, of_kind};
 ghost use Rattle.step_parts.specs.Answers.{code_of};
 ghost use Rattle.step_moves.specs.Bodies.{state_of, Ready, left_by, Leaves};
 ghost use Rattle.step_moves.specs.Gets.{controller_of, stream_of};
-ghost use Rattle.step_asks.specs.Groups.{at_row, at_desk};
+ghost use Rattle.step_moves.specs.Sets.{with_board};
+ghost use Rattle.step_asks.specs.Groups.{at_row, at_desk, runs_after};
+ghost use Rattle.step_groups.specs.Asks.{BoardGoes};
 ghost use Rattle.step_groups.specs.Called.{ask_of};
-ghost use Rattle.step_groups.specs.Turns.{row_answer};
+ghost use Rattle.step_groups.specs.Turns.{row_answer, board_after};
 
 use step_asks::Ask;
 use step_parts::{Kind, Refusal, Write};
@@ -70,6 +72,26 @@ fn at_desk(body: &mut Body, ask: Ask) -> Result<Option<Write>, Refusal>
     Ok(None)
 }
 
+// What a step of the switch and all streams does. Apart from its check, since a function pays for its locals where it is entered, and most steps are refused;
+// and Startup, which leaves the board as it is, copies none.
+fn change_board(body: &mut Body, ask: Ask)
+    requires { BoardGoes ask body.old.core.streams body.old.core.claims }
+    ensures { body.new ≡ let next = board_after ask body.old.core.streams body.old.core.claims in with_board (runs_after ask) next.streams next.claims body.old }
+{
+    body.running = step_asks::runs_after(ask);
+    if ask.kind == Kind::Startup as u8 {
+        return;
+    }
+    // Out of the struct before they are stored: the check takes an array only from a variable.
+    let Board { streams, claims } = step_groups::board_after(
+        ask,
+        body.core.streams,
+        body.core.claims,
+    );
+    body.core.streams = streams;
+    body.core.claims = claims;
+}
+
 // A step of the switch and all streams, or one that nothing calls for.
 fn at_board(body: &mut Body, ask: Ask) -> Result<Option<Write>, Refusal>
     requires { Ready body.old × (ask ≡ ask_of body.old ask.kind ask.node) × (at_row ask ≡ false) × (at_desk ask ≡ false) }
@@ -77,15 +99,7 @@ fn at_board(body: &mut Body, ask: Ask) -> Result<Option<Write>, Refusal>
     ensures err { OnErr result (body.new ≡ body.old) }
 {
     step_groups::check_board(ask, &body.core.streams, &body.core.claims)?;
-    // Out of the struct before they are stored: the check takes an array only from a variable.
-    let Board { streams, claims } = step_groups::board_after(
-        ask,
-        body.core.streams,
-        body.core.claims,
-    );
-    body.running = step_asks::runs_after(ask);
-    body.core.streams = streams;
-    body.core.claims = claims;
+    change_board(body, ask);
     Ok(None)
 }
 

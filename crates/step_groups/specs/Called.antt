@@ -48,7 +48,7 @@ refused-stays n s (some k) h = go (called (class_of k) s.count n) h
     go true h = stayed (part (class_of k) n) s (rule k n) (λ z. h (answered (part (class_of k) n) s (rule k n) ∙ z))
     go false h = refl
 
-refused-leaves : (b : Body) → Ready b → (n : ℕ) (history : List S.Write) (o : Option Kind) (code : ℕ) → code ≡ (of_kind o n (state_of b history)).answer → code ≢ step_done
+pub refused-leaves : (b : Body) → Ready b → (n : ℕ) (history : List S.Write) (o : Option Kind) (code : ℕ) → code ≡ (of_kind o n (state_of b history)).answer → code ≢ step_done
     → Leaves history (of_kind o n (state_of b history)) (plain code b)
 refused-leaves b ready n history o code e h =
     let same = refused-stays n (state_of b history) o (λ z. h (e ∙ z)) in

@@ -138,9 +138,13 @@ fn without(m: Mastership, node: u8) -> Mastership
     ensures { result ≡ pack_mastership (without_backup node (hold_mastership m)) }
 {
     let gone = m.place_of(node) as usize - 1;
+    let last = step_parts::MOST_BACKUPS as usize - 1;
     let mut backups = m.backups;
-    backups.copy_within(gone + 1.., gone);
-    backups[step_parts::MOST_BACKUPS as usize - 1] = 0;
+    // Not by `copy_within`: for it the archive for C hosts would need `memmove` from outside.
+    for i in gone..last {
+        backups[i] = m.backups[i + 1];
+    }
+    backups[last] = 0;
     Mastership {
         backups,
         len: m.len - 1,

@@ -132,21 +132,18 @@ pub fn tell_room(count: u8, streams: &[Stream; 8]) -> bool
         .all(|stream| !stream.opened || !stream.responses.full())
 }
 
-// Every open stream is told, from the lowest node on. A rule of the project: the open ones are walked by the bits of their word.
-pub fn tell_all(count: u8, elected: Elected, streams: [Stream; 8]) -> [Stream; 8]
+// Every open stream is told, from the lowest node on. A rule of the project: the open ones are walked by the bits of their word. The rows are lent: a copy of all
+// of them would stand on the stack once more.
+pub fn tell_all(count: u8, elected: Elected, streams: &mut [Stream; 8])
     requires { count ≤ most_nodes }
-    ensures { result ≡ table most_nodes (tell_row (column open_at count streams) (news_of elected) streams) }
+    ensures { streams.new ≡ table most_nodes (tell_row (column open_at count streams.old) (news_of elected) streams.old) }
 {
-    let mut left = open_word(count, streams);
-    let mut next = streams;
+    let mut left = open_word(count, *streams);
     while left != 0 {
         let i = u32::trailing_zeros(left) as usize;
-        let stream = next[i];
-        let response = news_for((i + 1) as u8, elected);
-        next[i] = respond(stream, response);
+        streams[i] = respond(streams[i], news_for((i + 1) as u8, elected));
         left = left & (left - 1);
     }
-    next
 }
 
 // The request at the head of the stream's queue.

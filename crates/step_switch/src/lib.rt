@@ -85,16 +85,9 @@ pub fn close(count: u8, node: u8, streams: [Stream; 8], claims: Claims) -> Board
     requires { Tells close_rule count node streams claims }
     ensures { result ≡ store_telling node ((close_rule node).effect (told_of count node true streams claims)) count streams claims }
 {
-    let left = cleared_at(count, node, streams, claims);
+    let mut left = cleared_at(count, node, streams, claims);
     if claims.elected.master == node {
-        let rows = left.streams;
-        let held = left.claims;
-        let elected = held.elected;
-        let told = step_streams::tell_all(count, elected, rows);
-        return Board {
-            streams: told,
-            claims: held,
-        };
+        step_streams::tell_all(count, left.claims.elected, &mut left.streams);
     }
     left
 }
@@ -184,13 +177,10 @@ fn updated(count: u8, node: u8, streams: [Stream; 8], claims: Claims) -> Board
     let mut next = streams;
     if now.master != elected.master {
         next[at] = row;
-        let told = step_streams::tell_all(count, elected, next);
-        return Board {
-            streams: told,
-            claims: held,
-        };
+        step_streams::tell_all(count, elected, &mut next);
+    } else {
+        next[at] = step_streams::tell_one(node, elected, row);
     }
-    next[at] = step_streams::tell_one(node, elected, row);
     Board {
         streams: next,
         claims: held,

@@ -1,4 +1,4 @@
-use mathlib.Core.Path.{◌≡◌, sym, ap, subst, ◌∙◌}
+use mathlib.Core.Path.{◌≡◌, refl, sym, ap, subst, ◌∙◌}
 use mathlib.Core.Bool.{Bool, false}
 use Prim.Native.Nat.{ℕ}
 use Rattle.std.proofs.lemmas.Result.{err_from_is_err_and}
@@ -44,10 +44,10 @@ returns-in_err-check_board-clause-leaves c = λ history.
     (refused-by b c.requires.0 n history (kind_of k) c.in_err-check_board.field-0.0
     (answered s _ c.in_err-check_board.ensures ∙ board-answered b c.requires.0 n k (no_row s) (no-desk s) history))
 
-pub board_after-requires : goal.board_after-requires
-board_after-requires c =
+pub change_board-requires : goal.change_board-requires
+change_board-requires c =
     let b = c.args.body.now in
-    let s = (goal.at.board_after-requires c).Start in
+    let s = (goal.at.change_board-requires c).Start in
     subst (λ (a : Ask). BoardGoes a b.core.streams b.core.claims) (sym c.requires.1)
     (board-goes b c.requires.0 c.args.ask.node c.args.ask.kind (no_row s) (no-desk s) (sym (answered s _ c.in_ok-check_board.ensures)))
 
@@ -55,8 +55,9 @@ pub returns-clause-leaves : goal.returns-clause-leaves
 returns-clause-leaves c = λ history.
     let b = c.args.body.now in
     let s = (goal.at.returns-clause-leaves c).Start in
-    let x = c.board_after.result in
-    leaves-as history _ _ (plain step_done (with_board c.runs_after-body.result x.streams x.claims b))
-    (ap (λ (r : Bool). plain step_done (with_board r x.streams x.claims b)) (c.runs_after-body.ensures ∙ ap runs_after c.requires.1))
-    (board-leaves b c.requires.0 c.args.ask.node c.args.ask.kind (no_row s) (no-desk s) (sym (answered s _ c.in_ok-check_board.ensures)) history x
-    (c.board_after.ensures ∙ ap (λ (a : Ask). board_after a b.core.streams b.core.claims) c.requires.1))
+    let n = c.args.ask.node in
+    let k = c.args.ask.kind in
+    let x = board_after (ask_of b k n) b.core.streams b.core.claims in
+    leaves-as history _ (plain step_done (with_board (runs_after (ask_of b k n)) x.streams x.claims b)) _
+    (ap (plain step_done) (c.change_board.ensures ∙ ap (λ (a : Ask). let y = board_after a b.core.streams b.core.claims in with_board (runs_after a) y.streams y.claims b) c.requires.1))
+    (board-leaves b c.requires.0 n k (no_row s) (no-desk s) (sym (answered s _ c.in_ok-check_board.ensures)) history x refl)

@@ -33,16 +33,6 @@ below c =
 pub overflow_sub-gone : goal.overflow_sub-gone
 overflow_sub-gone c = let k = gone (goal.at.overflow_sub-gone c).After-place_of in omega arith
 
-pub copy_within-requires-clause-start_le_end : goal.copy_within-requires-clause-start_le_end
-copy_within-requires-clause-start_le_end c =
-    let at = (goal.at.copy_within-requires-clause-start_le_end c).After-place_of in
-    let k = gone at in let s = sizes at in let b = below at in omega arith
-
-pub copy_within-requires-clause-dest_in_bounds : goal.copy_within-requires-clause-dest_in_bounds
-copy_within-requires-clause-dest_in_bounds c =
-    let at = (goal.at.copy_within-requires-clause-dest_in_bounds c).After-place_of in
-    let k = gone at in let s = sizes at in let b = below at in omega arith
-
 pub overflow_sub-result : goal.overflow_sub-result
 overflow_sub-result c = let s = sizes (goal.at.overflow_sub-result c).After-place_of in omega arith
 
@@ -54,9 +44,11 @@ returns c =
     let s = sizes at in
     let g : c.place_of.result - 1 ≡ before c.args.node (hold_mastership m).backups = omega arith in
     let size : length m.backups ≡ 7 = omega arith in
-    let f = rw (g, size) at c.copy_within.ensures.by_index in
-    let places = without-places c.args.node (hold_mastership m).backups m.backups c.copy_within.new.self c.requires.among c.requires.ordered.short
-    (ap (λ (x : Mastership). x.backups) (sym c.requires.ordered.same)) (c.copy_within.ensures.len ∙ size) f.0 f.1 in
+    let v = c.loop-i.invariant in
+    let b = below at in
+    let e : c.loop-i.i - before c.args.node (hold_mastership m).backups ≡ 7 - (before c.args.node (hold_mastership m).backups + 1) = omega arith in
+    let places = without-places c.args.node (hold_mastership m).backups m.backups c.loop-i.backups c.requires.among c.requires.ordered.short
+    (ap (λ (x : Mastership). x.backups) (sym c.requires.ordered.same)) v.1 (rw (g, e) at v.2) (rw g at v.3) in
     λ i. record {
       term = m.term;
       master = m.master;

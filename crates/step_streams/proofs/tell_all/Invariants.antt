@@ -25,7 +25,7 @@ pub record Telling (count : ℕ) (elected : Elected) (rows₀ : List Stream) (le
   pub walk : Walk most_nodes (row rows₀) (tell_row (column open_at count rows₀) (news_of elected) rows₀) past_stream (column open_at count rows₀) flags rows
 
 abbrev pub invariant-loop-left : goal.invariant-loop-left
-invariant-loop-left l = Telling l.count l.elected l.initial.next l.left l.next
+invariant-loop-left l = Telling l.count l.elected l.initial.streams l.left l.streams
 
 abbrev pub decreases-loop-left : goal.decreases-loop-left
 decreases-loop-left l = l.left

@@ -17,10 +17,10 @@ unfolding close_rule
 returns-then-claims-node c =
     let count = c.args.count in
     let left = c.cleared_at-left in
-    ap {B = Board} (λ r. record { streams = r; claims = left.result.claims }) c.tell_all-told.ensures
+    ap {B = Board} (λ r. record { streams = r; claims = left.result.claims }) c.tell_all.ensures
     ∙ ap {B = Board} (λ (x : Board). record { streams = table most_nodes (tell_row (column open_at count x.streams) (news_of x.claims.elected) x.streams); claims = x.claims }) left.ensures
     ∙ closed-told c.requires.at (eq-eqb _ _ c.if-claims-node.true) (close-roomy c.requires.at c.requires.goes)
 
-pub returns : goal.returns
+pub returns-else-claims-node : goal.returns-else-claims-node
 unfolding close_rule
-returns c = c.cleared_at-left.ensures ∙ closed-quiet c.requires.at (ne_eqb _ _ c.if-claims-node.false)
+returns-else-claims-node c = c.cleared_at-left.ensures ∙ closed-quiet c.requires.at (ne_eqb _ _ c.if-claims-node.false)

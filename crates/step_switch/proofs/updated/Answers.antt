@@ -43,25 +43,25 @@ offset_bounds-next-at c = omega (arith, place (goal.at.offset_bounds-next-at c).
 pub bounds-next-at : goal.bounds-next-at
 bounds-next-at c = omega (arith, place (goal.at.bounds-next-at c).Start)
 
-pub tell_all-told-requires : goal.tell_all-told-requires
-tell_all-told-requires c = c.requires.head.at.board.few
+pub tell_all-requires : goal.tell_all-requires
+tell_all-requires c = c.requires.head.at.board.few
 
 pub returns-then-now-elected : goal.returns-then-now-elected
 returns-then-now-elected c =
     let count = c.args.count in
-    ap {B = Board} (λ (l : List Stream). record { streams = l; claims = c.with_claim-held.result }) c.tell_all-told.ensures
+    ap {B = Board} (λ (l : List Stream). record { streams = l; claims = c.with_claim-held.result }) c.tell_all.ensures
     ∙ ap₂ {C = Board} (λ (k : Claims) (r : Stream). let next = set c.args.streams (c.args.node - 1) r in record { streams = table most_nodes (tell_row (column open_at count next) (news_of k.elected) next); claims = k }) (claimed (goal.at.returns-then-now-elected c).After-with_claim-held) c.without_head-row.ensures
     ∙ updated-all c.requires.head (shifts-yes c.requires.head _ (ap (λ (k : Claims). k.elected) (claimed (goal.at.returns-then-now-elected c).After-with_claim-held)) c.if-now-elected.true) c.requires.roomy
 
-pub offset_bounds-next-at-2 : goal.offset_bounds-next-at-2
-offset_bounds-next-at-2 c = omega (arith, place (goal.at.offset_bounds-next-at-2 c).Start)
+pub offset_bounds-next-at-else-now-elected : goal.offset_bounds-next-at-else-now-elected
+offset_bounds-next-at-else-now-elected c = omega (arith, place (goal.at.offset_bounds-next-at-else-now-elected c).Start)
 
-pub bounds-next-at-2 : goal.bounds-next-at-2
-bounds-next-at-2 c = omega (arith, place (goal.at.bounds-next-at-2 c).Start)
+pub bounds-next-at-else-now-elected : goal.bounds-next-at-else-now-elected
+bounds-next-at-else-now-elected c = omega (arith, place (goal.at.bounds-next-at-else-now-elected c).Start)
 
-pub returns : goal.returns
-returns c =
+pub returns-else-now-elected : goal.returns-else-now-elected
+returns-else-now-elected c =
     ap₂ {C = Board} (λ (r : Stream) (k : Claims). record { streams = set c.args.streams (c.args.node - 1) r; claims = k })
-    (c.tell_one.ensures ∙ ap₂ (λ (k : Claims) (r : Stream). responded (pack_response (news_of k.elected c.args.node)) r) (claimed (goal.at.returns c).After-with_claim-held) c.without_head-row.ensures)
-    (claimed (goal.at.returns c).After-with_claim-held)
-    ∙ updated-one c.requires.head (shifts-no c.requires.head _ (ap (λ (k : Claims). k.elected) (claimed (goal.at.returns c).After-with_claim-held)) c.if-now-elected.false) c.requires.roomy
+    (c.tell_one.ensures ∙ ap₂ (λ (k : Claims) (r : Stream). responded (pack_response (news_of k.elected c.args.node)) r) (claimed (goal.at.returns-else-now-elected c).After-with_claim-held) c.without_head-row.ensures)
+    (claimed (goal.at.returns-else-now-elected c).After-with_claim-held)
+    ∙ updated-one c.requires.head (shifts-no c.requires.head _ (ap (λ (k : Claims). k.elected) (claimed (goal.at.returns-else-now-elected c).After-with_claim-held)) c.if-now-elected.false) c.requires.roomy
