@@ -30,8 +30,12 @@ pub fn check_step(nodes: u8, kind: u8, node: u8) -> Result<(), Refusal>
 fn check_steps(nodes: u8, steps: &[u8]) -> Result<(), Refusal>
     ensures { code_of result ≡ first_fault nodes (steps_in steps.now) }
 {
-    for step in steps.chunks(2) {
-        check_step(nodes, step[0], step.get(1).copied().unwrap_or(MISSING))?;
+    // Whole steps first: with `chunks(2)`, each of which may be cut short, this took half as long again.
+    for i in 0..steps.len() / 2 {
+        check_step(nodes, steps[2 * i], steps[2 * i + 1])?;
+    }
+    if steps.len() % 2 == 1 {
+        check_step(nodes, steps[steps.len() - 1], MISSING)?;
     }
     Ok(())
 }

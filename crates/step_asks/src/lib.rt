@@ -62,12 +62,17 @@ pub fn at_desk(ask: Ask) -> bool
 pub fn check_exists(ask: Ask) -> Result<(), Refusal>
     ensures { code_of result ≡ existence ask }
 {
-    let called = match Kind::try_from(ask.kind)? {
-        Kind::Shutdown | Kind::Startup => ask.node == 0,
-        _ => step_parts::is_node(ask.count, ask.node),
-    };
-    if !called {
-        return Err(Refusal::WrongNode);
+    match Kind::try_from(ask.kind)? {
+        Kind::Shutdown | Kind::Startup => {
+            if ask.node != 0 {
+                return Err(Refusal::WrongNode);
+            }
+        }
+        _ => {
+            if !step_parts::is_node(ask.count, ask.node) {
+                return Err(Refusal::WrongNode);
+            }
+        }
     }
     Ok(())
 }
