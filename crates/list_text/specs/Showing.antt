@@ -1,7 +1,7 @@
 -- The text of a list, line by line. Assumes nothing.
 use Rattle.std.specs.Prelude.{◌≡◌, List, [], ◌∷◌, ◌++◌, length}
 use Rattle.std.proofs.Math.Path.{refl, ap}
-use Rattle.std.proofs.Common.{sym, ◌∙◌, append_assoc, arith, length-take-le}
+use Rattle.std.proofs.Common.{sym, ◌∙◌, append_assoc, arith}
 use Prim.Native.Nat.{ℕ, zero, suc, ◌<◌}
 use Rattle.any_text.specs.Decimal.{decimal}
 use Rattle.any_text.specs.Lines.{newline, refused_line}

@@ -26,7 +26,7 @@ pub const LONGEST_NAME: usize = 14;
 #[tactic(auto, unfolding(crate::specs::Names::names))]
 pub fn name_of(kind: u8) -> &'static [u8]
     ensures name { result.now ≡ name_of kind }
-    ensures short { length result.now ≤ 14 }
+    ensures short { length result.now ≤ LONGEST_NAME }
 {
     let Ok(kind) = Kind::try_from(kind) else {
         return b"";

@@ -111,19 +111,12 @@ fn line_of(line: &[u8]) -> Line
 fn refused_at(line: usize, head: Option<Head>, records: usize) -> Refused
     ensures { result ≡ refused_at line head records }
 {
-    match head {
-        Some(Head { nodes, bound }) => Refused {
-            line,
-            nodes,
-            bound,
-            records,
-        },
-        None => Refused {
-            line,
-            nodes: 0,
-            bound: 0,
-            records,
-        },
+    let Head { nodes, bound } = head.unwrap_or(Head { nodes: 0, bound: 0 });
+    Refused {
+        line,
+        nodes,
+        bound,
+        records,
     }
 }
 

@@ -62,6 +62,7 @@ pub fn at_desk(ask: Ask) -> bool
 pub fn check_exists(ask: Ask) -> Result<(), Refusal>
     ensures { code_of result ≡ existence ask }
 {
+    // Each case refuses by itself: where both gave one flag to a test, the compiler made no branch of it, and the writer of lists took longer.
     match Kind::try_from(ask.kind)? {
         Kind::Shutdown | Kind::Startup => {
             if ask.node != 0 {
